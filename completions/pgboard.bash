@@ -8,6 +8,7 @@ _pgboard() {
     --workers) words=$(printf '%s ' {1..64}) ;;
     --bound) words=$(printf '%s ' {0..8}) ;;
     --known) words= ;;
+    --install) words= ;;
     *)
         case $command in
         '')

@@ -14,8 +14,9 @@ complete -c pgboard -n "__fish_seen_subcommand_from solve" -l winners -d "Write 
 complete -c pgboard -n "__fish_seen_subcommand_from solve" -l known -r -F -d "A solution text of what is known; it may omit vertices"
 # (where the command is the script ./pgboard)
 function __pgboard_is_script
-    test (head -c 2 -- (command -s pgboard) | string collect) = '#!'
+    set -l path (command -s -- (commandline -opc)[1])
+    and string match -q '#!' -- (head -c 2 -- $path)
 end
 complete -c pgboard -n "__fish_use_subcommand; and __pgboard_is_script" -l unproved -d "run a build without proofs, which its first use makes in a minute or two"
 complete -c pgboard -n "__fish_use_subcommand; and __pgboard_is_script" -l rebuild -d "prove and build what changed, and run that"
-complete -c pgboard -n "__fish_use_subcommand; and __pgboard_is_script" -l install -d "prove and build what changed, and link this script and the man page below PREFIX (~/.local)"
+complete -c pgboard -n "__fish_use_subcommand; and __pgboard_is_script" -l install -x -a "(__fish_complete_directories)" -d "prove and build what changed, and link this script and the man page below PREFIX (~/.local)"

@@ -38,10 +38,12 @@ environment chooses in vertex 0, and Even is the controller.
              listed has no line in it: `solve --known` completes it.
 """
 
+import lib
 from lib import games
 
 import collections
 import gzip
+import io
 import re
 import sys
 import zlib
@@ -65,6 +67,7 @@ STATEMENT = re.compile(
     rb"""\s*(?:(?P<id>[0-9]+)\s+(?P<priority>[0-9]+)\s+0*(?P<owner>[01])(?:\s+(?P<to>[0-9]+(?:\s*,\s*[0-9]+)*))?\s*(?P<name>"[^"]*")?"""
     rb"""|start\s*(?P<start>[0-9]+)|(?P<kind>max-?|min-?)?parity\s*(?P<most>[0-9]+))\s*;"""
 )
+COMMENT = re.compile(rb"(?:#|//)[^\n]*")
 CHOICE = re.compile(rb"\s*(?:paritysol\s*[0-9]+|[0-9]+\s+0*[01](?:\s+[0-9]+)?)\s*;")
 PLAYER = re.compile(r"(?i)^\W*(?:player|won by|winner)\W*(0|1|even|odd)\b[^:\n]*:?(.*)$")
 LISTED = re.compile(r"(?i)\s*(?:with strategy:?)?([\s0-9{}\[\](),;>-]*)")
@@ -72,11 +75,10 @@ LISTED = re.compile(r"(?i)\s*(?:with strategy:?)?([\s0-9{}\[\](),;>-]*)")
 
 def bytes_of(path):
     """What a file or standard input has, unpacked."""
-    with sys.stdin.buffer if path == "-" else open(path, "rb") as file:
-        data = file.read()
+    data = lib.read(path)
     if data.startswith(b"\x1f\x8b"):
         try:
-            data = gzip.decompress(data)
+            data = gzip.GzipFile(fileobj=io.BytesIO(data)).read()
         except (OSError, EOFError, zlib.error) as error:
             raise Refused(f"{games.called(path)}: it can't be unpacked: {error}") from error
     return data.removeprefix(b"\xef\xbb\xbf")
@@ -199,7 +201,7 @@ def vertices_of(automaton, closes):
             if not closes:
                 automaton.tokens.refuse(f"state {state} has no edge, and --dead-ends was not given", automaton.places[state])
             successors, priority = [state], 1 - owner
-        name = automaton.called[state].replace('\\"', "'")
+        name = automaton.called[state].replace('"', "'")
         yield state, priority, owner, list(successors), f' "{name}"' * bool(name)
 
 
@@ -231,9 +233,10 @@ def solution_of(path, data):
     begun = re.search(rb"(?m)^paritysol\b", data)
     if begun:
         # (the lines keep their numbers)
-        text = b"\n" * data.count(b"\n", 0, begun.start()) + data[begun.start() :]
+        solution = COMMENT.sub(b"", data[begun.start() :])
+        text = b"\n" * data.count(b"\n", 0, begun.start()) + solution
         collections.deque(statements(path, text.rstrip(), CHOICE), maxlen=0)
-        yield data[begun.start() :]
+        yield solution
         return
     solution = sorted(listed(path, data.decode("utf-8", "surrogateescape")).items())
     rows = "".join(f"{vertex} {winner}{'' if choice is None else f' {choice}'};\n" for vertex, (winner, choice) in solution)

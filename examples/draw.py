@@ -109,7 +109,7 @@ def main(words):
         kinds.add_argument(f"--{kind}", dest="kind", action="store_const", const=kind, help="write this picture, not Graphviz text")
     parser.add_argument("--trace", metavar="TRACE", help="what `pgboard trace` wrote of the game")
     parser.add_argument("--entries", metavar="K", type=int, help="how many entries of the trace are shown")
-    given = parser.parse_args(words)
+    given = parser.parse_intermixed_args(words)
     if given.trace and given.solution or given.entries is not None and (given.entries < 0 or not given.trace):
         parser.error("--trace comes without a SOLUTION, and --entries with --trace")
     second = given.trace or given.solution

@@ -163,7 +163,7 @@ def main(words):
         return 0
     claim = Claim(game, solution)
     lines, edges = explained(claim, verdict)
-    print("\n".join([verdict, *lines]))
+    print("\n".join([verdict, *lines]), flush=True)
     if given.picture:
         draw(given.picture, claim, edges)
     return 1

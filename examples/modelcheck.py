@@ -45,8 +45,8 @@ who asks doesn't wait for ever:
   examples/modelcheck.py --picture wait.svg $model \\
       '[ask_1] mu X. (<true> true && [!enter_1] X)'
 
-status: 0 where the formula holds, 1 where it doesn't, 2 where something was
-refused
+status: 0 where the formula holds, 1 where it doesn't, 2 or more where
+something was refused
 """
 
 HEAD = re.compile(r"\s*des\s*\(\s*([0-9]{1,10})\s*,\s*([0-9]{1,10})\s*,\s*([0-9]{1,10})\s*\)\s*")
@@ -241,7 +241,7 @@ def main(words):
         solution = games.solved(product.moves)
     finally:
         progress("")
-    print("false" if solution[0][0] else "true")
+    print("false" if solution[0][0] else "true", flush=True)
     transitions = product.evidence(solution) if given.evidence or given.picture else []
     if given.evidence:
         games.write(given.evidence, aldebaran(model, transitions))

@@ -38,8 +38,8 @@ example, an arbiter of two clients, and one that has to grant at once:
   examples/synthesise.py --aiger - examples/synthesise/arbiter_2.hoa
   examples/synthesise.py examples/synthesise/arbiter_2_at_once.hoa
 
-status: 0 where there is a controller, 1 where there is none, 2 where something
-was refused
+status: 0 where there is a controller, 1 where there is none, 2 or more where
+something was refused
 """
 
 
@@ -129,7 +129,8 @@ def merged(machine):
     name = {}
     for state in machine:
         name.setdefault(group[state], state)
-    return {state: grouped(machine[state], {it: name[group[it]] for it in machine}) for state in name.values()}
+    named = {state: name[group[state]] for state in machine}
+    return {state: grouped(machine[state], named) for state in name.values()}
 
 
 def grouped(lines, group):
@@ -221,7 +222,8 @@ def draw(path, rows):
 def main(words):
     parser = games.parser(__doc__, HELP)
     parser.add_argument("specification", metavar="SPEC.hoa", help="an automaton or a game; - is standard input")
-    parser.add_argument("--aiger", metavar="FILE", type=aiger.path, help="write a circuit: ASCII to .aag and -, binary to .aig")
+    circuits = f"write a circuit of at most {aiger.MOST_VARIABLES} inputs and bits of state: ASCII to .aag and -, binary to .aig"
+    parser.add_argument("--aiger", metavar="FILE", type=aiger.path, help=circuits)
     parser.add_argument("--picture", metavar="FILE", type=games.picture_path, help="draw the machine, in .dot, .svg, .png or .pdf")
     parser.add_argument("--game", metavar="FILE", help="write the game")
     given = parser.parse_args(words)
@@ -237,11 +239,11 @@ def main(words):
     rows = rows_of(machine, len(inputs))
     text = table(rows, automaton.names, inputs, outputs)
     check(automaton, text, winner, inputs, outputs)
-    circuit = aiger.Circuit(machine, automaton.names, inputs, outputs) if given.aiger else None
-    text = text if not circuit else circuit.text() if given.aiger == "-" else ""
-    print("UNREALIZABLE\n" if winner else "REALIZABLE\n", text, sep="", end="")
-    if circuit:
-        aiger.write(given.aiger, circuit)
+    circuit = lambda: aiger.Circuit(machine, automaton.names, inputs, outputs)
+    text = text if not given.aiger else circuit().text() if given.aiger == "-" else ""
+    print("UNREALIZABLE\n" if winner else "REALIZABLE\n", text, sep="", end="", flush=True)
+    if given.aiger and given.aiger != "-":
+        aiger.write(given.aiger, circuit())
     if given.picture:
         draw(given.picture, rows)
     return winner

@@ -80,7 +80,7 @@ def main(words):
     if start not in game:
         raise Refused(f"{games.called(given.game)}: there is no vertex {start}")
     moves, winner = reached(game, solution, start), solution[start][0]
-    print(solution_text(solution, moves) if given.reach else f"{PLAYERS[winner]} wins vertex {start}\n", end="")
+    print(solution_text(solution, moves) if given.reach else f"{PLAYERS[winner]} wins vertex {start}\n", end="", flush=True)
     if given.part:
         games.write(given.part, game_text(game, moves, start))
     if given.picture:

@@ -22,7 +22,9 @@
 #else
 #define PGBOARD_CALL
 #endif
-#if defined(__cplusplus) || (defined(__STDC_VERSION__) && __STDC_VERSION__ >= 199901L)
+#if defined(__cplusplus)
+#define PGBOARD_INLINE inline
+#elif defined(__STDC_VERSION__) && __STDC_VERSION__ >= 199901L
 #define PGBOARD_INLINE static inline
 #elif defined(__GNUC__)
 #define PGBOARD_INLINE static __inline__
@@ -59,8 +61,9 @@ uint32_t pgboard_version(void);
 
 /* The answers; pgboard_strerror has a text for each. In brackets are the fields of `report`, `at` and then `to`. A field
  * without a name there is 0. A call reports the first fault. It looks at the game, then at the solution or at what is known,
- * then at the struct for results, and at last at what the solution or the known choices mean. Each of these has its faults in
- * the order below, for the least vertex and then the least successor, or as the brackets say. */
+ * then at the struct for results, and at last at what the solution or the known choices mean. In a text the faults of its format
+ * come first, and of each kind the first in the text (docs/FORMATS.md has their order). All others have the order below, for the
+ * least vertex and then the least successor, or as the brackets say. */
 #define PGBOARD_OK 0u
 #define PGBOARD_MEMORY 1u
 
@@ -154,7 +157,7 @@ struct pgboard_report {
 
 /* A max-parity game of n vertices, 0 to n - 1: owners (0 Even, 1 Odd) and priorities of each, and the successors of v in
  * targets[starts[v]], up to and without targets[starts[v + 1]]; so starts has n + 1 entries, from 0 to the number of
- * targets. In each struct `size` is its sizeof, so that a later version can take programs of this one. */
+ * targets. The `size` of a struct is its sizeof, so that a later version can take programs of this one. */
 struct pgboard_game {
     size_t size;
     const uint8_t *owners;
@@ -231,9 +234,9 @@ uint32_t pgboard_verify_text(const uint8_t *game, size_t game_len, const uint8_t
  * So each settled vertex has its right winner, whatever is posted, by whom and in which order. Each post that settles something
  * is an entry of the board's journal. Entries are numbered from 0.
  *
- * Set the struct to zero before the first call: that is a closed board. Never look into it, and never copy one that is open.
- * After any answer but PGBOARD_OK the board is unchanged, except after pgboard_board_advance. Each call has a board for itself,
- * also one that only reads. Threads that share a board take turns:
+ * Set the struct to zero before the first call: that is a closed board. Never look into it. To move an open board, copy its struct
+ * and set the old one to zero: an open board may not have two. After any answer but PGBOARD_OK the board is unchanged, except after
+ * pgboard_board_advance. Each call has a board for itself, also one that only reads. Threads that share a board take turns:
  *
  *     static pthread_mutex_t turn = PTHREAD_MUTEX_INITIALIZER;
  *     pthread_mutex_lock(&turn);
@@ -273,18 +276,19 @@ struct pgboard_entry {
     uint64_t rows;
 };
 
-/* Opens a board of a game, on which nothing is settled. The game is copied. The faults are PGBOARD_BOARD_OPEN and those of a
- * game. */
+/* Opens a board of a game, on which nothing is settled. The game is copied. The faults are PGBOARD_BOARD_OPEN, those of a
+ * game and PGBOARD_MEMORY. */
 PGBOARD_CALL
 uint32_t pgboard_board_open(struct pgboard_board *board, const struct pgboard_game *game, struct pgboard_report *report);
 
 /* The same with a game in PGSolver's format. The board numbers the vertices from 0 on, in the order of their identifiers. The
- * faults are PGBOARD_BOARD_OPEN, which comes first, and those of a game's text. */
+ * faults are PGBOARD_BOARD_OPEN, which comes first, those of a game's text and PGBOARD_MEMORY. */
 PGBOARD_CALL
 uint32_t pgboard_board_open_text(struct pgboard_board *board, const uint8_t *game, size_t game_len, struct pgboard_report *report);
 
-/* Posts a claim. The faults are PGBOARD_BOARD_CLOSED, PGBOARD_SIZE and those of a claim that is posted. A claim that was found on
- * an earlier state is posted too: vertices that are settled for the player by then are no fault, but for PGBOARD_POST_STALE. */
+/* Posts a claim. The faults are PGBOARD_BOARD_CLOSED, PGBOARD_SIZE, those of a claim that is posted, and PGBOARD_MEMORY. A claim that
+ * was found on an earlier state is posted too: vertices that are settled for the player by then are no fault, but for
+ * PGBOARD_POST_STALE. */
 PGBOARD_CALL
 uint32_t pgboard_board_post(struct pgboard_board *board, const struct pgboard_claim *claim, struct pgboard_posted *posted,
                             struct pgboard_report *report);
@@ -318,9 +322,10 @@ uint32_t pgboard_board_finish_within(struct pgboard_board *board, uint64_t steps
 
 /* Settles more of what is left, by the posts of pgboard_board_finish in the same order. A call makes one search or, after the last
  * search, takes up to `*steps` steps of the recursion. It leaves in `*steps` the number of steps that it did not take; a search takes
- * none. The answer is PGBOARD_OK once all is settled, and PGBOARD_GAVE_UP before that. What is settled stays, whatever the answer.
- * The next call goes on where this one ended. If something was posted in between, or memory was refused, it begins anew. So a
- * program can do something else between two calls, or stop. The other faults are PGBOARD_BOARD_CLOSED and PGBOARD_MEMORY. */
+ * none. The answer is PGBOARD_OK once all is settled, and before that PGBOARD_GAVE_UP, which is no fault here. What is settled stays,
+ * whatever the answer. The next call goes on where this one ended. If something was posted in between, or memory was refused, it
+ * begins anew. So a program can do something else between two calls, or stop. The faults are PGBOARD_BOARD_CLOSED and
+ * PGBOARD_MEMORY. */
 PGBOARD_CALL
 uint32_t pgboard_board_advance(struct pgboard_board *board, uint64_t *steps, struct pgboard_report *report);
 

@@ -34,12 +34,14 @@ struct fault : std::runtime_error {
     }
 };
 
-// A pointer and a length, as std::span of C++20: of a vector, a std::span, an array or a list, which has to be there during the call.
+// A pointer and a length, as std::span of C++20: of a vector, a std::span, an array of C or of C++, or a list. It has to be there during
+// the call.
 template <class Item> class span {
   public:
     span() = default;
     span(Item *first, std::size_t length) : first(first), length(length) {}
     span(std::initializer_list<Item> items) : span(items.begin(), items.size()) {}
+    template <std::size_t Count> span(Item (&items)[Count]) : span(items, Count) {}
     template <class Items, class = std::enable_if_t<std::is_convertible_v<decltype(std::declval<const Items &>().data()), Item *>>>
     span(const Items &items) : first(items.data()), length(items.size())
     {
@@ -224,11 +226,16 @@ class journal {
         using iterator_category = std::input_iterator_tag;
         using value_type = entry;
         using difference_type = std::ptrdiff_t;
-        using pointer = const entry *;
         using reference = entry;
+        // (an entry is made when it is read, and lasts as long as the expression that reads it)
+        struct pointer {
+            entry it;
+            const entry *operator->() const { return &it; }
+        };
 
         iterator(const board *of, std::uint64_t number) : of(of), number(number) {}
         entry operator*() const;
+        pointer operator->() const { return {**this}; }
         iterator &operator++() { return number++, *this; }
         iterator operator++(int) { return {of, number++}; }
         // (the end is where no entry is left)
@@ -285,7 +292,8 @@ class board {
     }
     ~board() { pgboard_board_close(&held); }
 
-    // Posts a claim; the answer says why it is refused. PGBOARD_POST_STALE and PGBOARD_POST_LOST are no errors where others post too.
+    // Posts a claim; the answer says why it is refused. PGBOARD_POST_STALE is no error where others post too. After PGBOARD_POST_LOST the
+    // claim was never right.
     outcome<pgboard_posted> try_post(std::uint32_t player, span<const std::uint32_t> vertices, span<const std::uint32_t> choices, std::uint32_t worker = 0)
     {
         const pgboard_claim claim{sizeof claim, worker, player, vertices.data(), vertices.size(), choices.data(), choices.size()};

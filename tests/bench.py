@@ -6,8 +6,7 @@ ones. The commands of docs/BENCHMARKS.md print its tables. Each kind of wrong an
 figures, the units and the game that takes the recursion long are worked out here again.
 """
 
-import importlib.machinery
-import importlib.util
+import itertools
 import os
 import re
 import sys
@@ -30,9 +29,7 @@ cat {out}; exit $status
 
 def loaded():
     """bench/run as a module."""
-    loader = importlib.machinery.SourceFileLoader("bench_run", str(BENCH / "run"))
-    module = importlib.util.module_from_spec(importlib.util.spec_from_loader("bench_run", loader))
-    loader.exec_module(module)
+    module = common.load(BENCH / "run")
     os.makedirs(module.OUT, exist_ok=True)
     return module
 
@@ -43,8 +40,10 @@ class Bench(unittest.TestCase):
         words = ["--runs", "1", "--only", ",".join(INPUTS), "--commands", ",".join(COMMANDS)]
         status, out, err = common.run([sys.executable, BENCH / "run", common.PROGRAM, *words], timeout=1800)
         self.assertEqual(status, 0, out + err)
-        shown = {word for line in out.decode().splitlines() for word in line.split()[:2]}
-        self.assertLessEqual({*INPUTS, *COMMANDS}, shown, out)
+        shown = {tuple(line.split()[:2]) for line in out.decode().splitlines()}
+        # (the second input is a text that is refused, and only `tidy` gets one)
+        wanted = {*itertools.product(INPUTS[:1], COMMANDS), *itertools.product(INPUTS[1:], COMMANDS[:2])}
+        self.assertEqual(wanted - shown, set(), out)
 
     def test_a_wrong_answer_is_said_and_is_the_status(self):
         folder, program = common.make_folder(self), common.make_folder(self) / "program"
@@ -60,12 +59,19 @@ class Bench(unittest.TestCase):
             ("solve", "solve", "", 1),
         ]:
             with self.subTest(command, change=change):
-                program.write_text(WRONG.format(program=common.PROGRAM, out=folder / "out", words=words, change=change, status=status), encoding="utf-8")
-                program.chmod(0o755)
+                common.write_program(program, WRONG.format(program=common.PROGRAM, out=folder / "out", words=words, change=change, status=status))
                 got, out = ran(command)
                 self.assertEqual((got, f"\nown_loops {command} WRONG: ".encode() in out), (1, True), out)
         for it in BENCH.glob("out/wrong-own_loops-*"):
             it.unlink()
+
+    def test_a_measured_run_that_ends_in_another_way_is_wrong(self):
+        folder = common.make_folder(self)
+        help = f'case "$*" in *--help) exec {common.PROGRAM} "$@" ;; esac'
+        text = f'#!/bin/sh\n{help}\n[ ! -e {folder}/ran ] || kill -9 $$\ntouch {folder}/ran\nexec {common.PROGRAM} "$@"\n'
+        words = ["--runs", "1", "--only", "own_loops", "--commands", "tidy"]
+        status, out, _ = common.run([sys.executable, BENCH / "run", common.write_program(folder / "program", text), *words], timeout=600)
+        self.assertEqual((status, b"\nown_loops tidy WRONG: " in out, b" of the runs that were measured" in out), (1, True, True), out)
 
     def test_what_is_not_built_is_named(self):
         rows = ["run", "no program"], ["library", "solve", "--program", "no program"], ["library", "solve", "--program", common.PROGRAM, "--archive", "no.a"]
@@ -100,7 +106,8 @@ class Bench(unittest.TestCase):
         bench = loaded()
         it = bench.Bench.__new__(bench.Bench)
         it.measure = bench.build(str(BENCH / "measure.rs"), "measure")
-        takes = {"sleep": ["-c", "import time; time.sleep(0.6)"], "loop": ["-c", "import time\nwhile time.process_time() < 0.6: pass"], "fill": ["-c", "x = b'x' * (200 << 20)"]}
+        loop, fill = "import time\nwhile time.process_time() < 0.6: pass", "x = b'x' * (200 << 20)"
+        takes = {"sleep": ["-c", "import time; time.sleep(0.6)"], "loop": ["-c", loop], "fill": ["-c", fill]}
         ran = {name: it.run(sys.executable, words, os.devnull) for name, words in takes.items()}
         self.assertEqual([status for status, *_ in ran.values()], [0, 0, 0])
         self.assertTrue(0.6 <= ran["sleep"][1] < 30 and ran["sleep"][2] < 0.6, ran)

@@ -12,8 +12,6 @@ again from figures that are given, and the commands of docs/BENCHMARKS.md print 
 PGBOARD_ARCHIVE names another static library, as in embed.py.
 """
 
-import importlib.machinery
-import importlib.util
 import os
 import random
 import re
@@ -139,7 +137,8 @@ class Referee(Boards):
                 self.assertEqual(command, solvers[int(worker) - 1])
                 is_ended = len(board.state()) == len(game) and ended == "ended, since the board is full"
                 wanted = said_of(board, int(worker), solutions[int(worker) - 1])
-                self.assertIn((ended, said), [("status 0", wanted), *((ended, it) for it in (wanted, "nothing is claimed") if is_ended)], (game, solutions, lines))
+                late = [(ended, it) for it in (wanted, "nothing is claimed") if is_ended]
+                self.assertIn((ended, said), [("status 0", wanted), *late], (game, solutions, lines))
                 said_words.update(re.findall("cycle|choice|leaves|already|claimed", said))
             self.assertEqual(left, len(game) - len(board.state()))
         self.assertEqual(len(said_words), 5, said_words)
@@ -177,18 +176,26 @@ class Referee(Boards):
         self.assertEqual([it[2] for it in lines], ["ended after 4.5 s"] * 2)
         self.assertEqual(({it[0]: it[3] for it in lines}, left), ({"1": "Odd settled 1, of which 1 of 1 claimed", "2": "nothing is claimed"}, 2))
         self.assertLess(time.monotonic() - begun, 60)
-        self.assert_gone(int(pid.read_text(encoding="ascii")))
+        common.wait_until(lambda: not common.is_alive(int(pid.read_text(encoding="ascii"))))
 
-    def assert_gone(self, pid):
-        ends = time.monotonic() + 60
-        while common.is_alive(pid):
-            self.assertLess(time.monotonic(), ends)
-            time.sleep(0.05)
+    def test_what_a_solver_starts_in_another_session_does_not_hold_it_up(self):
+        self.file("game.pg", "0 0 0 0;\n")
+        solver = common.load(BOARD / "referee.py").Solver(1, "sh -c 'echo \"0 0 0;\"; setsid sleep 60 2>/dev/null &'")
+        begun = time.monotonic()
+        self.assertEqual((solver.run("", 0.5, str(self.folder)), solver.how_it_ended()), ("0 0 0;\n", "ended after 0.5 s"))
+        self.assertLess(time.monotonic() - begun, 40)
+
+    def test_a_text_of_blanks_takes_little_time(self):
+        referee, begun = common.load(BOARD / "referee.py"), time.monotonic()
+        with self.assertRaisesRegex(referee.Refused, "^line 200002 is of no solution$"):
+            list(referee.lines_of("3 0 3;\n" + "\n" * 200_000 + "done;"))
+        self.assertLess(time.monotonic() - begun, 20)
 
     def test_a_full_board_ends_the_other_solvers(self):
         begun = time.monotonic()
         lines, left = self.referee(GAME, "sleep 600", f"cat {self.file('all', '3 0 3; 9 1 9; 12 0;')}", more=["--time", "600"])
-        self.assertEqual([it[2:] for it in lines], [("status 0", "Even settled 2, of which 2 of 2 claimed; Odd settled 1, of which 1 of 1 claimed"), ("ended, since the board is full", "nothing is claimed")])
+        all_of_it = "Even settled 2, of which 2 of 2 claimed; Odd settled 1, of which 1 of 1 claimed"
+        self.assertEqual([it[2:] for it in lines], [("status 0", all_of_it), ("ended, since the board is full", "nothing is claimed")])
         self.assertEqual(left, 0)
         self.assertLess(time.monotonic() - begun, 60)
 
@@ -199,9 +206,9 @@ class Referee(Boards):
         words = [it for at in range(3) for it in ("--solver", f"sh -c 'sleep 600 & echo $! > {pids}/{at}; touch {pids}/{at}.begun; wait'")]
         how = {"stdout": subprocess.PIPE, "stderr": subprocess.PIPE, "env": {**self.env, "TMPDIR": str(scratch)}}
         heeds = lambda: signal.signal(signal.SIGINT, signal.SIG_DFL)
-        with subprocess.Popen([sys.executable, "-B", BOARD / "referee.py", *words, self.file("game.pg", plain.written_game(GAME))], preexec_fn=heeds, **how) as ran:
-            for _ in range(1200):
-                time.sleep(0.05 * (len([*pids.glob("*.begun")]) < 3))
+        command = [sys.executable, "-B", BOARD / "referee.py", *words, self.file("game.pg", plain.written_game(GAME))]
+        with subprocess.Popen(command, preexec_fn=heeds, **how) as ran:
+            common.wait_until(lambda: len([*pids.glob("*.begun")]) == 3)
             self.assertEqual(len([*scratch.iterdir()]), 1)
             ran.send_signal(signal.SIGINT)
             out, err = ran.communicate(timeout=60)
@@ -209,7 +216,7 @@ class Referee(Boards):
         self.assertIn(ran.returncode, (130, -signal.SIGINT))
         self.assertEqual([*scratch.iterdir()], [])
         for it in pids.glob("?"):
-            self.assert_gone(int(it.read_text(encoding="ascii")))
+            common.wait_until(lambda it=it: not common.is_alive(int(it.read_text(encoding="ascii"))))
 
     def by_hand(self, lines, *words):
         """A run of the script in which these lines come first."""
@@ -220,13 +227,15 @@ class Referee(Boards):
         begun, late = self.folder / "begun", "if self.worker == 2: import time; time.sleep(3)"
         # the second one's command is begun once the board is full
         lines = ["start = referee.Solver.run", "def run(self, *given):", f"    {late}", "    return start(self, *given)", "referee.Solver.run = run"]
-        said, left = self.referee(GAME, f"cat {self.file('all', '3 0 3; 9 1 9; 12 0;')}", f"sh -c 'touch {begun}; sleep 600'", **self.by_hand(lines, "--time", "600"))
+        solvers = f"cat {self.file('all', '3 0 3; 9 1 9; 12 0;')}", f"sh -c 'touch {begun}; sleep 600'"
+        said, left = self.referee(GAME, *solvers, **self.by_hand(lines, "--time", "600"))
         self.assertEqual((said[1][2:], left, begun.exists()), (("ended, since the board is full", "nothing is claimed"), 0, False))
 
     def test_one_solver_is_posted_at_a_time(self):
         lines = [
             "import threading, time; busy = threading.Lock(); post = referee.Referee.post_all", "def one(*given):",
-            "    alone = busy.acquire(blocking=False); time.sleep(0.2); found = post(*given)", "    if alone: busy.release()", "    return found if alone else 'two at a time'",
+            "    alone = busy.acquire(blocking=False); time.sleep(0.2); found = post(*given)",
+            "    if alone: busy.release()", "    return found if alone else 'two at a time'",
             "referee.Referee.post_all = one",
         ]  # fmt: skip
         said, _ = self.referee(GAME, *[f"cat {self.file('odd', '9 1 9;')}"] * 4, **self.by_hand(lines))
@@ -236,7 +245,7 @@ class Referee(Boards):
     def test_what_a_solver_says_on_standard_error_is_shown(self):
         status, out, err = self.run_script("--solver", "sh -c 'echo out of luck >&2; exit 7'", self.file("game.pg", plain.written_game(GAME)))
         self.assertEqual((status, err.splitlines()[0]), (0, "out of luck"))
-        self.assertRegex(err.splitlines()[1], r"^referee: solver 1 .*: status 7, 0\.\d s: nothing is claimed$")
+        self.assertRegex(err.splitlines()[1], r"^referee: solver 1 .*: status 7, \d+\.\d s: nothing is claimed$")
 
     def test_a_solver_that_prints_without_end_is_ended(self):
         lines, _ = self.referee(GAME, "yes '3 0 3;'", **self.by_hand(["referee.MOST = 10**6"], "--time", "600"))
@@ -245,7 +254,11 @@ class Referee(Boards):
     def test_how_a_solver_gets_the_game_and_gives_the_solution(self):
         solution = self.file("all", "3 0 3; 9 1 9; 12 0;")
         said = "Even settled 2, of which 2 of 2 claimed; Odd settled 1, of which 1 of 1 claimed"
-        for name, solver in {"input": "sh -c 'cat > {0}; cat {1}'", "path": "sh -c 'cat {{game}} > {0}; cat {1}'", "both": "sh -c 'cat {{game}} > {0}; cp {1} {{solution}}; echo no;'"}.items():
+        for name, solver in {
+            "input": "sh -c 'cat > {0}; cat {1}'",
+            "path": "sh -c 'cat {{game}} > {0}; cat {1}'",
+            "both": "sh -c 'cat {{game}} > {0}; cp {1} {{solution}}; echo no;'",
+        }.items():
             got = self.folder / f"game of {name}".replace(" ", "_")
             self.assertEqual(self.referee(GAME, solver.format(got, solution))[0][0][2:], ("status 0", said))
             self.assertEqual(got.read_text(encoding="ascii"), plain.written_game(GAME))
@@ -312,13 +325,15 @@ class Referee(Boards):
         self.assertEqual((status, out), (2, b""))
         self.assertRegex(err, "^referee: pgboard: its library can't be loaded .*\n$")
         status, out, err = self.run_script("--solver", "/nowhere {game}", str(good))
-        self.assertEqual((status, err), (0, "referee: solver 1 (/nowhere {game}): /nowhere: No such file or directory\nreferee: the recursion settled 3 of 3\n"))
+        said = "referee: solver 1 (/nowhere {game}): /nowhere: No such file or directory\nreferee: the recursion settled 3 of 3\n"
+        self.assertEqual((status, err), (0, said))
 
-    def test_help_fits(self):
+    def test_help_fits_and_names_commands_that_need_no_shell(self):
         # (it needs no library)
         status, out, err = self.run_script("--help", PGBOARD_LIBRARY="/nowhere.so")
         self.assertEqual((status, err, [it for it in out.decode().splitlines() if len(it) > 80]), (0, "", []))
-        self.assertLessEqual(len(common.text_of("examples", "board", "referee.py").splitlines()), 400)
+        commands = re.findall(r"--solver '([^']*)'", out.decode())
+        self.assertEqual((len(commands), [it for it in commands if set("<>|&;$") & set(it)]), (3, []))
 
 
 def of_degree_two(chance, size):
@@ -387,7 +402,8 @@ class Promote(Boards):
     def test_calls_take_turns_and_the_report_is_that_of_the_journal(self):
         turns, counts, guessed = self.folder / "turns", self.folder / "counts", 0
         calls = [f"-Wl,--wrap=pgboard_board_{it}" for it in ("open", "settled", "entries", "state", "entry", "post")]
-        for words in (["cc", *embed.FLAGS, "-c", "tests/turns.c", "-o", f"{turns}.o"], ["g++", "-std=c++17", "-Iinclude", "-O2", BOARD / "promote.cpp", f"{turns}.o", *embed.ARCHIVES, "-lpthread", *calls, "-o", turns]):
+        parts = [BOARD / "promote.cpp", f"{turns}.o", *embed.ARCHIVES, "-lpthread", *calls]
+        for words in (["cc", *embed.FLAGS, "-c", "tests/turns.c", "-o", f"{turns}.o"], ["g++", "-std=c++17", "-Iinclude", "-O2", *parts, "-o", turns]):
             self.assertEqual(embed.run(words)[::2], (0, ""))
         loops = {v: (2 * v + v % 2, 0, {v}) for v in range(2_000)}
         for seed in range(30):
@@ -433,9 +449,7 @@ class Library(Boards):
     @classmethod
     def setUpClass(cls):
         super().setUpClass()
-        loader = importlib.machinery.SourceFileLoader("bench_library", str(cls.SCRIPT))
-        cls.bench = importlib.util.module_from_spec(importlib.util.spec_from_loader("bench_library", loader))
-        loader.exec_module(cls.bench)
+        cls.bench = common.load(cls.SCRIPT)
 
     def table(self, *words, program=common.PROGRAM):
         given = ["--runs", "1", "--only", "own_loops", "--program", program, "--archive", embed.ARCHIVES[0]]
@@ -455,9 +469,8 @@ class Library(Boards):
                 self.assertRegex(shown[2], rf"^\| own_loops( \| -?[0-9.]+( \(-?[0-9.]+\))?){{{head.count('|') - 2}}} \|$")
 
     def test_a_solution_that_the_program_refuses_is_named(self):
-        refuses = self.folder / "refuses"
-        refuses.write_text(f'#!/bin/sh\ncase "$*" in verify*.pg*out) exit 1 ;; *) exec {common.PROGRAM} "$@" ;; esac\n')
-        refuses.chmod(0o755)
+        text = f'#!/bin/sh\ncase "$*" in verify*.pg*out) exit 1 ;; *) exec {common.PROGRAM} "$@" ;; esac\n'
+        refuses = common.write_program(self.folder / "refuses", text)
         for table in self.bench.HEADS:
             status, shown = self.table(table, program=refuses)
             self.assertEqual((status, shown[2]), (1, "| own_loops | WRONG |"), shown)
@@ -466,7 +479,8 @@ class Library(Boards):
         # reading takes 10 ms, a byte of 200 more 0.1 ms, and so 5 ms are for the 50 bytes of the solution
         took = {"verify": 10, "tidy": 30, "solve": 60}
         sizes = {"tidy": 200, "solve": 50}
-        self.assertEqual(self.row("solve", took, sizes, solve=(0, 0, 0, 49.5), known=(0, 0, 0, 54), make=(0, 0, 0, 9)), ["45.0", "49.5 (1.10)", "54.0 (1.20)", "9.0 (0.20)"])
+        row = self.row("solve", took, sizes, solve=(0, 0, 0, 49.5), known=(0, 0, 0, 54), make=(0, 0, 0, 9))
+        self.assertEqual(row, ["45.0", "49.5 (1.10)", "54.0 (1.20)", "9.0 (0.20)"])
 
     def test_the_cells_of_promotion(self):
         ran = {"alone": (50, 40, 5, 4), "one": (70, 52, 9, 6), "four": (60, 99, 7, 7)}

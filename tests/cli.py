@@ -22,7 +22,6 @@ import pathlib
 import re
 import shlex
 import subprocess
-import time
 import unittest
 
 import common
@@ -76,8 +75,11 @@ class Cases(unittest.TestCase):
 
 common.load_tests_of_table(Cases, {it.name: it.name for it in sorted(CASES.iterdir())}, Cases.judge)
 
-# what a build says of itself: rt alone records nothing, ./pgboard and ./package record the commit, and twelve digits where they suffice
-BUILD = rb"build: (?:not recorded: whether this program was proved, and of which commit it is|(?:un)?proved, (?:(?:changed since )?commit|sources) [0-9a-f]{40})"
+# what a build says of itself: rt alone records nothing, ./pgboard and ./package record the commit, or without git the sum of the sources
+BUILD = (
+    rb"build: (?:not recorded: whether this program was proved, and of which commit it is"
+    rb"|(?:un)?proved, (?:(?:changed since )?commit|sources) [0-9a-f]{40})"
+)
 
 
 class Version(unittest.TestCase):
@@ -219,10 +221,8 @@ class Devices(Answers):
             with self.subTest(before=len(before)), subprocess.Popen(words, cwd=self.folder, stdout=subprocess.PIPE) as ran:
                 with open(pipe, "wb", buffering=0) as file:
                     # (opening it has waited for the program)
-                    opened, ends = pathlib.Path(f"/proc/{ran.pid}/fd"), time.monotonic() + 60
-                    while str(solution) not in map(os.path.realpath, opened.iterdir()):
-                        self.assertLess(time.monotonic(), ends)
-                        time.sleep(0.01)
+                    opened = pathlib.Path(f"/proc/{ran.pid}/fd")
+                    common.wait_until(lambda opened=opened: str(solution) in map(os.path.realpath, opened.iterdir()))
                     solution.write_bytes(then)
                     file.write(GAME)
                 self.assertEqual((ran.communicate(timeout=60)[0], ran.returncode), (b"ok\n", 0))

@@ -2,13 +2,17 @@
 
 import contextlib
 import functools
+import importlib.machinery
+import importlib.util
 import os
 import pathlib
+import pty
 import re
 import shutil
 import subprocess
 import sys
 import tempfile
+import time
 import unittest
 import xml.etree.ElementTree
 
@@ -44,6 +48,37 @@ def make_folder(case):
     return pathlib.Path(folder.name)
 
 
+def write_program(path, text):
+    """Writes a script that may be run, in a folder that is made where it is not there, and returns its path."""
+    path.parent.mkdir(parents=True, exist_ok=True)
+    path.write_text(text, encoding="utf-8")
+    path.chmod(0o755)
+    return path
+
+
+def copy_crates(folder):
+    """Copies what proofs read of this tree."""
+    shutil.copytree(ROOT / "crates", folder / "crates", ignore=shutil.ignore_patterns("out", "must-fail"))
+    for name in ("crates.txt", "HANDLES"):
+        shutil.copy(ROOT / name, folder)
+
+
+def load(path):
+    """A script of the repository as a module."""
+    loader = importlib.machinery.SourceFileLoader(f"{path.parent.name}_{path.stem}", str(path))
+    script = importlib.util.module_from_spec(importlib.util.spec_from_loader(loader.name, loader))
+    loader.exec_module(script)
+    return script
+
+
+def wait_until(is_so, seconds=60):
+    """Waits until something is so, which has to come within these seconds."""
+    ends = time.monotonic() + seconds
+    while not is_so():
+        assert time.monotonic() < ends, "it takes too long"
+        time.sleep(0.02)
+
+
 def run(words, given=b"", timeout=60, **how):
     """Runs a command and returns its status, standard output and standard error."""
     ran = subprocess.run(words, input=given, capture_output=True, timeout=timeout, **how)
@@ -53,6 +88,18 @@ def run(words, given=b"", timeout=60, **how):
 def program(*words, given=b"", **how):
     """Runs the program under test likewise."""
     return run([PROGRAM, *words], given, **how)
+
+
+def at_terminal(words, typed=b"", **how):
+    """A run whose standard error is a terminal, and its standard input where something is typed there; and what it says there."""
+    ours, theirs = pty.openpty()
+    os.write(ours, typed)
+    ran = subprocess.run(words, stdin=theirs if typed else subprocess.DEVNULL, stdout=subprocess.PIPE, stderr=theirs, timeout=60, **how)
+    os.write(theirs, b"end")
+    text = b""
+    while not text.endswith(b"end"):
+        text += os.read(ours, 65536)
+    return ran, text.removesuffix(b"end")
 
 
 def drawn(text):
@@ -118,6 +165,15 @@ class Result(unittest.TextTestResult):
     def addSuccess(self, test):
         super().addSuccess(test)
         self.passed += not self.rows
+
+
+def write_or_test(made):
+    """With --write writes the files that a script makes, by paths and texts; else runs its tests."""
+    if "--write" in sys.argv:
+        for path, text in made():
+            (ROOT / path).write_text(text, encoding="utf-8")
+    else:
+        main()
 
 
 def main():

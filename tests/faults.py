@@ -7,7 +7,6 @@ it makes. The definitions that the contracts of crates/pgboard_c cite have the n
 
 import re
 import runpy
-import sys
 import textwrap
 import typing
 import unittest
@@ -151,8 +150,4 @@ class Definitions(unittest.TestCase):
 
 
 if __name__ == "__main__":
-    if "--write" in sys.argv:
-        for name, text_made in made():
-            (common.ROOT / name).write_text(text_made, encoding="utf-8")
-    else:
-        common.main()
+    common.write_or_test(made)

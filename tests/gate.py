@@ -30,6 +30,9 @@ TOOLS = {
     "berkeley-abc": ("berkeley-abc", "berkeley-abc"),
     "mypy": ("mypy", "mypy"),
     "valgrind": ("valgrind", "valgrind"),
+    "man": ("man", "man-db"),
+    "fish": ("fish", "fish"),
+    "zsh": ("zsh", "zsh"),
     "rustc 1.85 or later": ("rustc", "rustc"),
     "NumPy": ("numpy.module", "python3-numpy"),
     "NetworkX": ("networkx.module", "python3-networkx"),
@@ -91,26 +94,21 @@ class Gate(unittest.TestCase):
             shutil.copy(common.ROOT / name, self.top)
         shutil.copy(common.ROOT / "tests" / "common.py", self.top / "tests")
         self.built = self.top / "crates" / "pgboard_program" / "out" / "pgboard_program"
-        self.built.parent.mkdir(parents=True)
-        self.put(self.built, "#!/bin/sh\n")
+        common.write_program(self.built, "#!/bin/sh\n")
         self.scripts = runpy.run_path(str(common.ROOT / "test"))["ALL"]
         for name in [*self.scripts, "library"]:
             self.script(name, "pass")
         for name in ("sh", "sed", "true", "cp", "env", "touch", "sleep"):
             (self.path / name).symlink_to(shutil.which(name))
         for file, _ in TOOLS.values():
-            self.put(self.path / file, "#!/bin/sh\n")
+            common.write_program(self.path / file, "#!/bin/sh\n")
         for name, text in (("python3", PYTHON), ("apt-get", APT_GET), ("rt", RT)):
-            self.put(self.path / name, text)
-
-    def put(self, path, text):
-        path.write_text(text, encoding="ascii")
-        path.chmod(0o755)
+            common.write_program(self.path / name, text)
 
     def script(self, name, does):
         """A script of the tests whose one test does this."""
         test = f"class It(unittest.TestCase):\n    def test(self):\n        {does}\n"
-        self.put(self.top / "tests" / f"{name}.py", f"import unittest\nimport common\n{test}common.main()\n")
+        common.write_program(self.top / "tests" / f"{name}.py", f"import unittest\nimport common\n{test}common.main()\n")
 
     def run_test(self, *words, is_root=True, **env):
         """Status, output and error of ./test, as root or not."""
@@ -169,7 +167,7 @@ class Gate(unittest.TestCase):
         self.assertEqual(self.calls(), [])
 
     def test_what_apt_get_does_not_install_is_missing(self):
-        self.put(self.path / "refuses", "")
+        common.write_program(self.path / "refuses", "")
         for tool, (file, packages) in TOOLS.items():
             with self.subTest(tool):
                 (self.path / file).rename(self.folder / file)
@@ -178,10 +176,9 @@ class Gate(unittest.TestCase):
 
     def test_a_python_further_on_the_path_has_the_modules(self):
         first = self.folder / "first"
-        first.mkdir()
-        self.put(first / "python3", PYTHON)
+        common.write_program(first / "python3", PYTHON)
         self.script("cli", "self.assertIn('path/python3', __import__('os').environ['RAN'])")
-        self.put(self.path / "python3", PYTHON.replace("exec ", 'RAN=$0 exec '))
+        common.write_program(self.path / "python3", PYTHON.replace("exec ", 'RAN=$0 exec '))
         self.assertEqual(self.run_test("cli", PATH=f"{first}:{self.path}")[::2], (0, ""))
 
     def test_without_rt_nothing_runs(self):
@@ -192,9 +189,8 @@ class Gate(unittest.TestCase):
     # --- the parts ---
 
     def test_the_gate_runs_all_over_a_copy_of_the_program_of_rt(self):
-        (self.top / "out" / "unproved").mkdir(parents=True)
-        self.put(self.top / "out" / "unproved" / "pgboard", "#!/bin/sh\n")
-        self.put(self.built, "#!/bin/sh\n# of rt\n")
+        common.write_program(self.top / "out" / "unproved" / "pgboard", "#!/bin/sh\n")
+        common.write_program(self.built, "#!/bin/sh\n# of rt\n")
         for name in self.scripts:
             wanted = "#!/bin/sh\n# of rt\n" if name not in ("bodies", "gate", "theorem") else None
             self.script(name, f"self.assertIn({wanted!r}, (None, common.PROGRAM.is_file() and common.PROGRAM.read_text()))")
@@ -232,11 +228,12 @@ class Gate(unittest.TestCase):
 
     def test_as_many_scripts_as_processors_run_once_the_edits_are_tried(self):
         names = ["bench", "launcher", "cli", "uses"][: len(os.sched_getaffinity(0))]
-        meets = f"self.assertEqual(common.run(['sh', '-c', 'touch did/{{}}; for i in {' '.join(names)}; do until [ -e did/$i ]; do sleep .1; done; done'], timeout=20)[0], 0)"
+        waits = f"for i in {' '.join(names)}; do until [ -e did/$i ]; do sleep .1; done; done"
+        meets = f"self.assertEqual(common.run(['sh', '-c', 'touch did/{{}}; {waits}'], timeout=60)[0], 0)"
         for name in names:
             self.script(name, meets.format(name))
         tried = 'echo "rt: must-fail pg_high/a.edit: refused, as it must be"\nhas_come "$ENDS"'
-        self.put(self.path / "rt", RT.replace('has_come "$ENDS"', tried))
+        common.write_program(self.path / "rt", RT.replace('has_come "$ENDS"', tried))
         status, out, err = self.run_test(ENDS=" ".join(names))
         self.assertEqual((status, out.splitlines()[-1]), (0, f"{10 + len(self.scripts)} passed, 0 failed"), out)
 
@@ -249,7 +246,7 @@ class Gate(unittest.TestCase):
         ):
             with self.subTest(case):
                 self.script("library", "self.fail()" if case == "no library" else "pass")
-                self.put(self.path / "rt", RT.replace("400", "1"))
+                common.write_program(self.path / "rt", RT.replace("400", "1"))
                 status, out, err = self.run_test(**env)
                 not_run = set(re.findall(r"(?m)^test: (\w+) was not run, as there is no .*: 0 passed, 1 failed$", out))
                 self.assertEqual((status, err, not_run), (1, "", gone), out)
@@ -264,8 +261,7 @@ class Gate(unittest.TestCase):
 
     def test_parts_run_over_what_was_built_last(self):
         unproved = self.top / "out" / "unproved" / "pgboard"
-        unproved.parent.mkdir(parents=True)
-        self.put(unproved, "#!/bin/sh\n")
+        common.write_program(unproved, "#!/bin/sh\n")
         os.utime(self.built, (0, 0))
         quick = [it for it in self.scripts if it not in ("bodies", "embed", "package", "boards")]
         for words, names in ((["scripts"], quick), (["uses", "cli"], ["cli", "uses"]), (["embed"], ["embed"])):
@@ -286,7 +282,7 @@ class Gate(unittest.TestCase):
         self.assertIn("uses: 0 passed, 1 failed", out)
         for name in ("cli", "uses"):
             self.script(name, "pass")
-        self.put(self.path / "rt", RT.replace("trying its must-fail edits (7)", "NOT PROVED").replace("pg_high: NOT", "pg_high NOT"))
+        common.write_program(self.path / "rt", RT.replace("trying its must-fail edits (7)", "NOT PROVED").replace("pg_high: NOT", "pg_high NOT"))
         status, out, _ = self.run_test(FAILED="1")
         self.assertEqual((status, out.splitlines()[-1]), (1, f"{10 + len(self.scripts)} passed, 1 failed"))
         self.assertRegex(out, r"(?m)^ +0:\d\d  rt: pg_high NOT PROVED$")
@@ -322,6 +318,33 @@ class Gate(unittest.TestCase):
         status, out, err = self.run_test()
         self.assertEqual((status, out.count("cli was not run, as there is no pgboard_program")), (1, 1), out)
 
+    def test_an_edit_that_was_not_tried_is_a_failure(self):
+        bad = "must-fail pg_high/a.edit: BAD EDIT: an 'old:' text is in src/lib.rt 0 times"
+        for said in (bad, "crates/pg_high/must-fail/a: BAD EDIT: an edit stands right"):
+            common.write_program(self.path / "rt", RT.replace('has_come "$ENDS"', f'echo "rt: {said}"'))
+            status, out, _ = self.run_test("proofs")
+            self.assertEqual((status, out.splitlines()[-1]), (1, "9 passed, 1 failed"), out)
+
+    def test_assertions_count_whatever_the_environment(self):
+        self.script("cli", "assert False, 'broken'")
+        status, out, _ = self.run_test("cli", PYTHONOPTIMIZE="1")
+        self.assertEqual((status, out.splitlines()[-1]), (1, "0 passed, 1 failed"), out)
+
+    def test_what_was_edited_while_rt_was_at_work_is_newer_than_the_program(self):
+        common.write_program(self.path / "rt", RT.replace('has_come "$HOLDS"', f'sleep 0.1; touch edited; sleep 0.1; touch {self.built}'))
+        self.assertEqual(self.run_test("proofs")[0], 0)
+        self.assertLess(self.built.stat().st_mtime, (self.top / "edited").stat().st_mtime)
+
+    def test_each_tool_and_module_that_a_test_is_left_out_without_is_looked_for(self):
+        known = {file for file, _ in TOOLS.values()} | {"rt", "c++"}
+        for path in common.ROOT.glob("tests/*.py"):
+            for words in re.findall(r"(?m)^ *@common\.needs\((.*)\)$", path.read_text(encoding="utf-8")):
+                self.assertLessEqual(set(re.findall(r'"([^"]+)"', words)), known, path.name)
+        # (what convert is, and what is no more than a second way, needs no package)
+        modules = {module for _, _, module in runpy.run_path(str(common.ROOT / "test"))["MODULES"]}
+        for path in common.ROOT.glob("bindings/python/test_*.py"):
+            self.assertLessEqual(set(re.findall(r"(?m)^try:\n    import (\w+)", path.read_text(encoding="utf-8"))) - {"convert", "scipy"}, modules, path.name)
+
     def test_what_did_not_pass_is_never_counted_as_passed(self):
         broken = "@classmethod\n    def setUpClass(cls):\n        raise OSError('broken')\n"
         rows = "for at in range(3):\n            with self.subTest(at=at):\n                self.assertEqual(at, 1, 'broken')"
@@ -341,7 +364,7 @@ class Gate(unittest.TestCase):
             ("no script", "raise SystemExit('broken')\n", "0 passed, 1 failed"),
         ]:
             with self.subTest(case):
-                self.put(self.top / "tests" / "cli.py", f"import unittest\nimport common\n{text}common.main()\n")
+                common.write_program(self.top / "tests" / "cli.py", f"import unittest\nimport common\n{text}common.main()\n")
                 status, out, _ = self.run_test("cli")
                 self.assertEqual((status, out.splitlines()[-1], "broken" in out), (1, counts, True), out)
 
@@ -350,7 +373,8 @@ class Gate(unittest.TestCase):
         self.assertEqual((status, err, [it for it in out.splitlines() if len(it) > 80]), (0, "", []))
         self.assertLessEqual({"proofs", "scripts", *self.scripts}, set(re.findall(r"\w+", out)))
         self.assertEqual(self.run_test("clu")[::2], (2, "test: clu is no part; ./test --help names them\n"))
-        self.assertEqual(sorted([*self.scripts, "circuits", "common", "library", "plain", "plain_board", "script_ends", "scripts"]), sorted(it.stem for it in common.ROOT.glob("tests/*.py")))
+        others = ["circuits", "common", "library", "plain", "plain_board", "script_ends", "scripts"]
+        self.assertEqual(sorted([*self.scripts, *others]), sorted(it.stem for it in common.ROOT.glob("tests/*.py")))
 
 
 if __name__ == "__main__":

@@ -5,9 +5,9 @@ These are the completions of three shells, and of docs/man1/pgboard.1 the sectio
 The options of ./pgboard, the script, are in the completions too: they are offered where the command is that script.
 """
 
+import os
 import re
 import shutil
-import sys
 import unittest
 
 import common
@@ -61,6 +61,7 @@ _pgboard() {{
     done
     case $before in
 {values}
+    --install) words= ;;
     *)
         case $command in
         '')
@@ -89,7 +90,7 @@ local context state state_descr line
 typeset -A opt_args
 local -a words_of_script names
 # ({script})
-if [[ $(head -c 2 -- ${{commands[pgboard]}} 2>/dev/null) == '#!' ]]; then
+if [[ $(head -c 2 -- "$(whence -p -- ${{(Q)~words[1]}})" 2>/dev/null) == '#!' ]]; then
     words_of_script=(
 {launchers}
     )
@@ -113,6 +114,14 @@ words)
     ;;
 esac
 """
+
+
+FISH_FOLDER = ' -x -a "(__fish_complete_directories)"'
+
+
+def folder(name, completes):
+    """How a shell completes the folder that an option of the script takes."""
+    return completes if name == "--install" else ""
 
 
 def bash(helps, launchers):
@@ -142,7 +151,8 @@ def zsh(helps, launchers):
 
     return OF_ZSH.format(
         names="\n".join(f"    '{it.name}:{it.first}'" for it in helps) + "\n    'help:Print the help of a command'", script=IS_SCRIPT,
-        launchers="\n".join(f"        '{name}[{words}]'" for name, words in launchers.items()), commands="\n".join(map(command, helps)),
+        launchers="\n".join(f"        '{name}[{words}]{folder(name, ':prefix:_files -/')}'" for name, words in launchers.items()),
+        commands="\n".join(map(command, helps)),
     )  # fmt: skip
 
 
@@ -159,8 +169,10 @@ def fish(helps, launchers):
         of, found = " ".join(it.name for it in helps if flag in it.flags), range_of(words)
         kind = f' -x -a "(seq {found[1]} {found[2]})"' if found else " -r -F" if value else ""
         lines.append(f'complete -c pgboard -n "__fish_seen_subcommand_from {of}" -l {name}{kind} -d "{words}"')
-    lines += [f"# ({IS_SCRIPT})", "function __pgboard_is_script", "    test (head -c 2 -- (command -s pgboard) | string collect) = '#!'", "end"]
-    lines += [f'complete -c pgboard -n "__fish_use_subcommand; and __pgboard_is_script" -l {name[2:]} -d "{words}"' for name, words in launchers.items()]
+    lines += [f"# ({IS_SCRIPT})", "function __pgboard_is_script", "    set -l path (command -s -- (commandline -opc)[1])"]
+    lines += ["    and string match -q '#!' -- (head -c 2 -- $path)", "end"]
+    first = "__fish_use_subcommand; and __pgboard_is_script"
+    lines += [f'complete -c pgboard -n "{first}" -l {name[2:]}{folder(name, FISH_FOLDER)} -d "{words}"' for name, words in launchers.items()]
     return "\n".join(lines) + "\n"
 
 
@@ -230,9 +242,28 @@ class Made(unittest.TestCase):
                 self.assertEqual(common.text_of(path), text, "tests/help.py --write makes it")
 
 
+class Shells(unittest.TestCase):
+    """What two shells complete where the command is ./pgboard, which is on no PATH: the options of the script are of the script alone."""
+
+    def setUp(self):
+        self.folder = common.make_folder(self)
+
+    def check(self, *words):
+        for made, offers in ((lambda path: common.write_program(path, "#!/bin/sh\n"), True), (lambda path: shutil.copy(shutil.which("true"), path), False)):
+            made(self.folder / "pgboard")
+            status, out, err = common.run(words, cwd=self.folder, env={**os.environ, "HOME": str(self.folder)})
+            self.assertEqual((status, err), (0, b""), words)
+            for option in launchers_flags():
+                self.assertEqual(option in re.findall(r"(?m)^--[a-z]+", out.decode()), offers, out)
+
+    @common.needs("fish")
+    def test_fish(self):
+        self.check("fish", "--no-config", "-c", f"source '{common.ROOT / FISH}'; complete -C './pgboard --'")
+
+    @common.needs("zsh")
+    def test_zsh(self):
+        self.check("zsh", "-f", "-c", f"words=(./pgboard --); _arguments() {{ print -l -- $@ }}; run() {{ source '{common.ROOT / ZSH}' }}; run")
+
+
 if __name__ == "__main__":
-    if "--write" in sys.argv:
-        for path, text in made().items():
-            (common.ROOT / path).write_text(text, encoding="utf-8")
-    else:
-        common.main()
+    common.write_or_test(lambda: made().items())

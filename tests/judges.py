@@ -122,8 +122,7 @@ class Judges(unittest.TestCase):
 
     def test_a_program_that_says_more_is_found(self):
         folder = common.make_folder(self)
-        (folder / "talks").write_text(TALKS.format(common.PROGRAM), encoding="utf-8")
-        (folder / "talks").chmod(0o755)
+        common.write_program(folder / "talks", TALKS.format(common.PROGRAM))
         checks = {}
         for seed in range(12):
             it = random_games.Checks(seed, folder)
@@ -133,7 +132,8 @@ class Judges(unittest.TestCase):
 
     def test_a_circuit(self):
         read = circuits.Circuit(CIRCUIT.encode())
-        self.assertEqual({word: read.step((), word)[1] for word in ("111", "110", "101", "011", "000")}, {"111": "1", "110": "0", "101": "0", "011": "0", "000": "0"})
+        wanted = {"111": "1", "110": "0", "101": "0", "011": "0", "000": "0"}
+        self.assertEqual({word: read.step((), word)[1] for word in wanted}, wanted)
         for name, old, new in [
             ("a gate before what it takes", "8 4 2\n10 8 6\n", "8 10 2\n10 6 4\n"),
             ("sides in the other order", "8 4 2\n", "8 2 4\n"),

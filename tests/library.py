@@ -15,6 +15,9 @@ import common
 sys.path.insert(0, os.path.dirname(os.path.realpath(shutil.which("rt"))))
 import rtlib
 
+# when ./test began, if it runs `rt ci`
+BEGAN = float(os.environ.get("PGBOARD_BEGAN") or "inf")
+
 
 @contextlib.contextmanager
 def locked(tree):
@@ -28,6 +31,13 @@ def locked(tree):
             os.close(it)
 
 
+def is_of_this_gate(crate, library):
+    """Whether `rt ci` has built a library since ./test began, of sources that nobody has changed since. (At its end it puts back what was
+    there before.)"""
+    sources = (path for it in [crate, *crate.below()] for path in rtlib.files_of(it.folder))
+    return library.is_dir() and library.stat().st_mtime >= BEGAN and all(os.stat(it).st_mtime < BEGAN for it in sources)
+
+
 def take_as_built(tree, above):
     """Has rt take the libraries below a crate of a tree as built of their sources: those that the gate has just proved, and left without
     a stamp. A tree that is not this one gets a copy of them."""
@@ -37,7 +47,7 @@ def take_as_built(tree, above):
             proved = common.ROOT / "crates" / crate.name / "out" / "rlib"
             if proved.is_dir() and not library.exists():
                 shutil.copytree(proved, library)
-            if (library / f"{crate.name}.rlib").is_dir() and not (library / "stamp").exists():
+            if is_of_this_gate(crate, library / f"{crate.name}.rlib") and not (library / "stamp").exists():
                 (library / "stamp").write_text(crate.stamp(), encoding="utf-8")
 
 
@@ -57,14 +67,7 @@ def built():
     return common.PROVED / "crates" / "pgboard_c" / "out" / "libpgboard_c.a"
 
 
-def copy_crates(folder):
-    """What proofs read of this tree."""
-    shutil.copytree(common.ROOT / "crates", folder / "crates", ignore=shutil.ignore_patterns("out", "must-fail"))
-    for name in ("crates.txt", "HANDLES"):
-        shutil.copy(common.ROOT / name, folder)
-
-
 if __name__ == "__main__":
-    copy_crates(common.PROGRAM)
+    common.copy_crates(common.PROGRAM)
     print(build(common.PROGRAM))
     print("1 passed, 0 failed")

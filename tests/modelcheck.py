@@ -8,11 +8,9 @@ compositions and closures are taken. The rest is evidence, games and pictures.
 
 import dataclasses
 import os
-import pty
 import random
 import re
 import shlex
-import subprocess
 import sys
 import unittest
 import unittest.mock
@@ -498,7 +496,8 @@ class ModelCheck(scripts.Use, unittest.TestCase):
     def test_a_formula_of_a_file(self):
         formula = self.file("always.mcf", "% always\nnu X.\n <a> X\n")
         self.assertEqual(self.run_script(self.model, formula), (0, "true\n", SIZE.format(4, 4)))
-        self.assertEqual(self.run_script(self.model, "-", given=b"<b> true % none\n"), (1, "false\n", SIZE.format(1, 1) + "modelcheck: the model has no label b\n"))
+        said = SIZE.format(1, 1) + "modelcheck: the model has no label b\n"
+        self.assertEqual(self.run_script(self.model, "-", given=b"<b> true % none\n"), (1, "false\n", said))
         self.check_standard_input(str(self.model), str(self.model), "<a.a> true")
         formula = self.file("always.mcf", "nu X.\n (<a> X\n")
         status, out, err = self.run_script(self.model, formula)
@@ -526,12 +525,8 @@ class ModelCheck(scripts.Use, unittest.TestCase):
     def test_progress_on_a_terminal(self):
         """The line of progress is replaced, and the size and the answer stay; a pipe gets no progress."""
         command = [sys.executable, "-B", scripts.EXAMPLES / "modelcheck.py", self.model, "[true*] <a> true"]
-        main, other = pty.openpty()
-        env = {**os.environ, "PGBOARD": shlex.quote(str(common.PROGRAM))}
-        ran = subprocess.run(command, stdout=subprocess.PIPE, stderr=other, env=env)
-        os.close(other)
-        shown = os.read(main, 9999).decode()
-        os.close(main)
+        ran, said = common.at_terminal(command, env={**os.environ, "PGBOARD": shlex.quote(str(common.PROGRAM))})
+        shown = said.decode()
         self.assertEqual((ran.returncode, ran.stdout), (0, b"true\n"))
         lines = [line.rpartition("\r\x1b[K")[2].rstrip("\r") for line in shown.split("\n")]
         self.assertRegex(lines[0], r"^modelcheck: size of the game: vertices \d+, edges \d+$")

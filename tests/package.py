@@ -58,7 +58,7 @@ DEPENDS = {
     "pgboard": r"libc6 \(>= [0-9.]+\)",
     "libpgboard0": r"libc6 \(>= [0-9.]+\)",
     "libpgboard-dev": r"libpgboard0 \(= VERSION\), libc6-dev \| libc-dev",
-    "python3-pgboard": r"libpgboard0 \(>= VERSION\), python3:any \(>= 3\.8~\)",
+    "python3-pgboard": r"libpgboard0 \(>= VERSION\), libpgboard0 \(<< VERSION\.1~\), python3:any \(>= 3\.8~\)",
 }
 SECTIONS = {"pgboard": "math", "libpgboard0": "libs", "libpgboard-dev": "libdevel", "python3-pgboard": "python"}
 # the packages of Debian that are there, and what each of pgboard's needs beside them
@@ -69,7 +69,8 @@ USES = {"pgboard": "libc6", "libpgboard0": "libc6", "libpgboard-dev": "libc6-dev
 
 def stanza(name, version):
     """What dpkg has to say of a package that is installed."""
-    return f"Package: {name}\nStatus: install ok installed\nMaintainer: none <none@localhost>\nArchitecture: amd64\nMulti-Arch: allowed\nVersion: {version}\nDescription: none\n\n"
+    fields = "Status: install ok installed\nMaintainer: none <none@localhost>\nArchitecture: amd64\nMulti-Arch: allowed\nDescription: none"
+    return f"Package: {name}\nVersion: {version}\n{fields}\n\n"
 
 
 def done(*words, **how):
@@ -124,23 +125,19 @@ class Packaged(unittest.TestCase):
         status, said = cls.tree.package(cls.dist)
         if status:
             raise AssertionError(said)
-        (archive,) = cls.dist.glob("*.tar.gz")
-        done("tar", "-xzf", archive, "-C", cls.folder)
+        (cls.archive,) = cls.dist.glob("*.tar.gz")
+        (cls.wheel,) = cls.dist.glob("*.whl")
+        with zipfile.ZipFile(cls.wheel) as wheel:
+            cls.in_wheel = {it: wheel.read(it) for it in wheel.namelist()}
+        done("tar", "-xzf", cls.archive, "-C", cls.folder)
         (cls.unpacked,) = cls.folder.glob("pgboard-*")
         cls.program = cls.unpacked / "bin" / "pgboard"
         cls.version = cls.unpacked.name.split("-")[1]
         cls.root = cls.folder / "debian"
-        cls.install_debian_packages()
-
-    @classmethod
-    def install_debian_packages(cls):
-        """Installs all of them in a root where nothing else is."""
-        for name in ("info", "updates"):
-            (cls.root / "var/lib/dpkg" / name).mkdir(parents=True)
-        for name in ("status", "available"):
-            (cls.root / "var/lib/dpkg" / name).touch()
-        flags = ["--force-depends", "--force-not-root", "--force-script-chrootless", f"--root={cls.root}"]
-        done("dpkg", *flags, "--install", *sorted(cls.dist.glob("*.deb")), env={**os.environ, "PATH": f"{os.environ['PATH']}:/usr/sbin:/sbin"})
+        # (all of them, where nothing else is)
+        holds, said = cls.installs("debian", NEEDS, {}, "--force-depends")
+        if not holds:
+            raise AssertionError(said)
 
     def test_the_sums_are_those_of_all_files(self):
         done("sha256sum", "--check", "--strict", "SHA256SUMS", cwd=self.dist)
@@ -163,12 +160,7 @@ class Packaged(unittest.TestCase):
 
     def test_a_tree_whose_crates_are_others_is_refused(self):
         copy = self.folder / "others"
-        for name in ("HANDLES", "crates.txt", *(f"crates/{it}/{part}" for it in PRODUCT for part in ("src", "specs", "proofs"))):
-            if (common.ROOT / name).is_dir():
-                shutil.copytree(common.ROOT / name, copy / name)
-            elif (common.ROOT / name).exists():
-                copy.mkdir(exist_ok=True)
-                shutil.copy(common.ROOT / name, copy / name)
+        common.copy_crates(copy)
         changed = [next((copy / "crates" / it / "src").glob("*.rt")) for it in PRODUCT]
         changed += [next((copy / "crates" / it / "specs").rglob("*.antt")) for it in PRODUCT]
         for at, path in enumerate([*changed, copy / "HANDLES", copy / "crates.txt"]):
@@ -184,10 +176,11 @@ class Packaged(unittest.TestCase):
         # (built again in another tree, with another folder for scratch work, for a user of other habits)
         other = self.folder / "another path"
         other.mkdir()
-        library.copy_crates(other)
+        common.copy_crates(other)
         library.take_as_built(other, "pgboard_program")
         (self.folder / "scratch").mkdir()
         self.tree.env.update(TMPDIR=str(self.folder / "scratch"), TZ="Asia/Tokyo", LC_ALL="C.UTF-8")
+        self.tree.env.update(GIT_CONFIG_COUNT="1", GIT_CONFIG_KEY_0="core.autocrlf", GIT_CONFIG_VALUE_0="true")
         kept = os.umask(0o077)
         try:
             status, said = self.tree.package(self.folder / "again", other)
@@ -203,14 +196,12 @@ class Packaged(unittest.TestCase):
         for path in (it for top in (self.unpacked, self.root) for it in top.rglob("*") if it.is_file() and "var/lib/dpkg" not in str(it)):
             data = gzip.decompress(path.read_bytes()) if path.suffix == ".gz" else path.read_bytes()
             self.assertEqual([it for it in local if it in data], [], path)
-        with zipfile.ZipFile(self.wheel()) as wheel:
-            for name in wheel.namelist():
-                self.assertEqual([it for it in local if it in wheel.read(name)], [], name)
+        for name, data in self.in_wheel.items():
+            self.assertEqual([it for it in local if it in data], [], name)
 
     def test_modes_and_owners(self):
         """A folder and what runs may be entered and run by all, and written by its owner alone; all is root's."""
-        (archive,) = self.dist.glob("*.tar.gz")
-        tops = [tarfile.open(archive)]
+        tops = [tarfile.open(self.archive)]
         for package in sorted(self.dist.glob("*.deb")):
             made = self.folder / f"{package.name}.tar"
             with open(made, "wb") as file:
@@ -296,34 +287,27 @@ class Packaged(unittest.TestCase):
         self.assertRegex(done("objdump", "-p", self.unpacked / "lib" / "libpgboard.so"), r"SONAME +libpgboard\.so\.0\n")
 
     def test_the_wheel_is_installed_without_an_index(self):
-        (wheel,) = self.dist.glob("*.whl")
         done(sys.executable, "-m", "venv", self.folder / "venv")
-        done(self.folder / "venv/bin/pip", "install", "--no-index", "--disable-pip-version-check", wheel)
+        done(self.folder / "venv/bin/pip", "install", "--no-index", "--disable-pip-version-check", self.wheel)
         (self.folder / "python").mkdir()
-        for path in (*(f"bindings/python/test_{it}.py" for it in ("pgboard", "calls", "board")), "tests/plain.py", "tests/plain_board.py"):
-            shutil.copy(common.ROOT / path, self.folder / "python")
+        tests = sorted(common.ROOT.glob("bindings/python/test_*.py"))
+        for path in (*tests, common.ROOT / "tests/plain.py", common.ROOT / "tests/plain_board.py"):
+            shutil.copy(path, self.folder / "python")
         shutil.copy(common.ROOT / "bindings/python/README.md", self.folder / "python")
         env = {name: value for name, value in os.environ.items() if name != "PGBOARD_LIBRARY"}
         env.update(PGBOARD_PROGRAM=str(self.program), PGBOARD_POSTS="3000")
-        said = done(self.folder / "venv/bin/python", "-m", "unittest", "test_pgboard", "test_calls", "test_board", cwd=self.folder / "python", env=env)
+        said = done(self.folder / "venv/bin/python", "-m", "unittest", *(it.stem for it in tests), cwd=self.folder / "python", env=env)
         self.assertRegex(said, r"(?m)^Ran [1-9]\d\d tests")
 
-    def wheel(self):
-        (path,) = self.dist.glob("*.whl")
-        return path
-
     def test_the_wheel_lists_its_files_with_their_sums(self):
-        with zipfile.ZipFile(self.wheel()) as wheel:
-            files = {it: wheel.read(it) for it in wheel.namelist()}
-        (record,) = (it for it in files if it.endswith(".dist-info/RECORD"))
+        (record,) = (it for it in self.in_wheel if it.endswith(".dist-info/RECORD"))
         encoded = lambda data: base64.urlsafe_b64encode(hashlib.sha256(data).digest()).rstrip(b"=").decode()
-        wanted = {(name, f"sha256={encoded(data)}", str(len(data))) for name, data in files.items() if name != record}
-        self.assertEqual(set(map(tuple, csv.reader(files[record].decode().splitlines()))), wanted | {(record, "", "")})
+        wanted = {(name, f"sha256={encoded(data)}", str(len(data))) for name, data in self.in_wheel.items() if name != record}
+        self.assertEqual(set(map(tuple, csv.reader(self.in_wheel[record].decode().splitlines()))), wanted | {(record, "", "")})
 
     def test_the_wheel_has_what_git_has_and_the_library(self):
-        with zipfile.ZipFile(self.wheel()) as wheel:
-            files = {it: wheel.read(it) for it in wheel.namelist() if ".dist-info/" not in it}
-            about = {it.split("/", 1)[1]: wheel.read(it) for it in wheel.namelist() if ".dist-info/" in it}
+        files = {it: data for it, data in self.in_wheel.items() if ".dist-info/" not in it}
+        about = {it.split("/", 1)[1]: data for it, data in self.in_wheel.items() if ".dist-info/" in it}
         names = self.tree.git("ls-files", "bindings/python/pgboard").split()
         wanted = {f"pgboard/{it.rpartition('/')[2]}": (common.ROOT / it).read_bytes() for it in names}
         wanted["pgboard/libpgboard.so"] = (self.unpacked / "lib" / "libpgboard.so").read_bytes()
@@ -338,7 +322,7 @@ class Packaged(unittest.TestCase):
             self.assertIn(f"\nClassifier: {line}\n", said)
 
     def test_the_wheel_says_what_it_is(self):
-        with zipfile.ZipFile(self.wheel()) as wheel:
+        with zipfile.ZipFile(self.wheel) as wheel:
             (name,) = (it for it in wheel.namelist() if it.endswith(".dist-info/METADATA"))
             said = email.message_from_string(wheel.read(name).decode())
             # (wheel itself writes RECORD, and pip its own)
@@ -356,7 +340,7 @@ class Packaged(unittest.TestCase):
 
     @common.needs("twine")
     def test_an_index_would_take_the_wheel(self):
-        self.assertIn("PASSED", done("twine", "check", "--strict", self.wheel()))
+        self.assertIn("PASSED", done("twine", "check", "--strict", self.wheel))
 
     # (Debian 12 has no auditwheel, which reads the same versions)
     def test_no_part_of_the_library_needs_a_later_glibc(self):
@@ -387,10 +371,12 @@ class Packaged(unittest.TestCase):
         for debian in ("pgboard", "libpgboard0", "libpgboard-dev", "python3-pgboard"):
             self.assertIn(found.strip(), (self.root / "usr/share/doc" / debian / "copyright").read_text(encoding="utf-8"))
         whole = pathlib.Path("/usr/share/common-licenses/LGPL-2.1")
-        self.assertEqual((folder / "LGPL-2.1.txt").read_bytes(), whole.read_bytes() if whole.exists() else (common.ROOT / "packaging/LGPL-2.1.txt").read_bytes())
+        whole = whole if whole.exists() else common.ROOT / "packaging/LGPL-2.1.txt"
+        self.assertEqual((folder / "LGPL-2.1.txt").read_bytes(), whole.read_bytes())
 
     def test_the_program_can_be_linked_with_another_glibc(self):
-        command = re.search(r"(?m)^program with another version of it: (cc .*)$", (self.unpacked / "share/doc/pgboard/NOTICES.glibc").read_text(encoding="ascii"))[1]
+        said = (self.unpacked / "share/doc/pgboard/NOTICES.glibc").read_text(encoding="ascii")
+        command = re.search(r"(?m)^program with another version of it: (cc .*)$", said)[1]
         done("sh", "-ec", command.replace("-o pgboard", f"-o {self.folder}/linked"), cwd=self.unpacked)
         self.assertEqual(common.run([self.folder / "linked"], JOINED), (0, b"ok\n", b""))
         self.assertEqual(done(self.folder / "linked", "--version"), done(self.program, "--version"))
@@ -446,16 +432,17 @@ class Packaged(unittest.TestCase):
         shlibs = done("dpkg-deb", "--info", next(self.dist.glob("libpgboard0_*.deb")), "shlibs").split("\n")
         self.assertEqual([it for it in shlibs if it], [f"libpgboard 0 libpgboard0 (>= {self.version})"])
 
-    def installs(self, name, packages, system):
+    @classmethod
+    def installs(cls, name, packages, system, *more):
         """Whether dpkg installs these packages in a root that has these of Debian's, and what it says."""
-        root = self.folder / name
+        root = cls.folder / name
         for part in ("info", "updates"):
             (root / "var/lib/dpkg" / part).mkdir(parents=True)
-        (root / "var/lib/dpkg/status").write_text("".join(stanza(it, SYSTEM[it]) for it in system), encoding="ascii")
+        (root / "var/lib/dpkg/status").write_text("".join(itertools.starmap(stanza, system.items())), encoding="ascii")
         for it in system:
             (root / "var/lib/dpkg/info" / f"{it}.list").touch()
-        files = [next(self.dist.glob(f"{it}_*.deb")) for it in packages]
-        flags = ["--force-not-root", "--force-script-chrootless", f"--root={root}"]
+        files = [next(cls.dist.glob(f"{it}_*.deb")) for it in packages]
+        flags = [*more, "--force-not-root", "--force-script-chrootless", f"--root={root}"]
         env = {**os.environ, "PATH": f"{os.environ['PATH']}:/usr/sbin:/sbin", "LC_ALL": "C"}
         status, out, err = common.run(["dpkg", *flags, "--install", *files], env=env)
         return status == 0, (out + err).decode()
@@ -465,13 +452,19 @@ class Packaged(unittest.TestCase):
             with self.subTest(name):
                 holds, said = self.installs(f"root of {name}", [*others, name], SYSTEM)
                 self.assertTrue(holds, said)
-                holds, said = self.installs(f"root of {name} without {USES[name]}", [*others, name], SYSTEM.keys() - {USES[name]})
+                lacking = {it: version for it, version in SYSTEM.items() if it != USES[name]}
+                holds, said = self.installs(f"root of {name} without {USES[name]}", [*others, name], lacking)
                 self.assertFalse(holds, said)
                 self.assertRegex(said, rf"{name} depends on {USES[name]}")
                 for other in others:
                     holds, said = self.installs(f"root of {name} alone", [name], SYSTEM)
                     self.assertFalse(holds, said)
                     self.assertRegex(said, rf"{name} depends on {other}")
+        # (the module takes the library of its own version alone)
+        for version in ("0.0.9", f"{self.version}.1", "99"):
+            holds, said = self.installs(f"root of {version}", ["python3-pgboard"], {**SYSTEM, "libpgboard0": version})
+            self.assertFalse(holds, said)
+            self.assertRegex(said, "python3-pgboard depends on libpgboard0")
 
     @common.needs("lintian")
     def test_debian_finds_no_error(self):
@@ -482,6 +475,7 @@ class Packaged(unittest.TestCase):
         self.assertEqual(packages, {"pgboard", "libpgboard0", "libpgboard-dev", "python3-pgboard"})
         # (Debian removes what of them is no code)
         self.assertEqual(names_in(self.root / LIBRARIES / "libpgboard.a", "--extern-only"), EXPORTS)
+        self.assertEqual((self.root / LIBRARIES / "libpgboard.a").read_bytes(), (self.unpacked / "lib" / "libpgboard.a").read_bytes())
         self.assertEqual(names_in(self.root / LIBRARIES / "libpgboard.so", "--dynamic"), EXPORTS)
         for name in ("libpgboard.so.0", "libpgboard.so"):
             self.assertEqual(os.readlink(self.root / LIBRARIES / name), os.readlink(self.unpacked / "lib" / name))
@@ -509,7 +503,8 @@ class Packaged(unittest.TestCase):
             folder.mkdir()
             (folder / "embed.c").write_text(program, encoding="utf-8")
             flags = [f"-DCMAKE_PREFIX_PATH={prefix}", "-DCMAKE_LIBRARY_ARCHITECTURE=x86_64-linux-gnu"]
-            asked = [("", 0), ("0", 0), ("0.1", 0), ("0.0", 1), ("0.1.99", 1), ("0.2", 1), ("1", 1), ("00", 1), (f"{self.version} EXACT", 0), ("0.1 EXACT", 1), (self.version, 0)]
+            asked = [("", 0), ("0", 0), ("0.1", 0), ("0.0", 1), ("0.1.99", 1), ("0.2", 1), ("1", 1), ("00", 1)]
+            asked += [(f"{self.version} EXACT", 0), ("0.1 EXACT", 1), (self.version, 0)]
             for version, status in asked:
                 (folder / "CMakeLists.txt").write_text(CMAKE.format(version=version), encoding="ascii")
                 self.assertEqual(common.run(["cmake", "-S", folder, "-B", folder / f"of{version}", *flags])[0], status, version)

@@ -3,11 +3,11 @@
 Nothing of it is taken from pgboard: tests compare the two.
 """
 
+import itertools
 import re
 
 GREATEST = 2_147_483_647
-BLANKS = b" \t\r\n"
-TOKEN = re.compile(rb'(?P<n>[0-9]+)|(?P<w>[A-Za-z]+)|(?P<q>"[^"]*")|(?P<c>,)|(?P<s>;)')
+TOKEN = re.compile(rb'[ \t\r\n]+|(?P<n>[0-9]+)|(?P<w>[A-Za-z]+)|(?P<q>"[^"]*")|(?P<c>,)|(?P<s>;)|(?P<none>.)')
 
 # The letter of each token in turn: n number, p parity, t start, y paritysol, w other word, q name, c comma, s semicolon
 GAME = re.compile(r"(pns)?(tns)?(nnnn(cn)*q?s)+")
@@ -29,17 +29,13 @@ def demand(holds, why):
 
 def tokens(text):
     """Returns the tokens: letter, place, bytes."""
-    found, at = [], 0
-    while True:
-        while at < len(text) and text[at] in BLANKS:
-            at += 1
-        if at == len(text):
-            return found
-        token = TOKEN.match(text, at)
-        demand(token, f"byte {at}: no token")
-        letter = token.lastgroup
-        found.append((WORDS.get(token[0], "w") if letter == "w" else letter, at, token[0]))
-        at = token.end()
+    found = []
+    for token in TOKEN.finditer(text):
+        letter, at = token.lastgroup, token.start()
+        demand(letter != "none", f"byte {at}: no token")
+        if letter:
+            found.append((WORDS.get(token[0], "w") if letter == "w" else letter, at, token[0]))
+    return found
 
 
 def demand_syntax(found, length, whole):
@@ -56,15 +52,10 @@ def lines_of(text, whole, headers):
     """The lines of a text, each a list of tokens, without the header lines."""
     found = tokens(text)
     demand_syntax(found, len(text), whole)
-    line, every = [], []
     for token in found:
         demand(token[0] != "n" or int(token[2]) <= GREATEST, f"byte {token[1]}: number too large")
-        if token[0] != "s":
-            line.append(token)
-        else:
-            every += [line] if line[0][0] not in headers else []
-            line = []
-    return every
+    lines = [list(line) for is_end, line in itertools.groupby(found, lambda token: token[0] == "s") if not is_end]
+    return [line for line in lines if line[0][0] not in headers]
 
 
 def game_of(text):

@@ -53,10 +53,7 @@ class Ends(unittest.TestCase):
 
     def program(self, text):
         """A program in pgboard's place."""
-        path = self.folder / "program"
-        path.write_text(f"#!/bin/sh\n{text}\n", encoding="ascii")
-        path.chmod(0o755)
-        return str(path)
+        return str(common.write_program(self.folder / "program", f"#!/bin/sh\n{text}\n"))
 
     def command(self, script, words):
         return [sys.executable, "-B", EXAMPLES / f"{script}.py", *words]
@@ -79,7 +76,7 @@ class Ends(unittest.TestCase):
             self.assertTrue(out.startswith(begins), out)
             help = " ".join(self.run_script(script, ["--help"])[1].split())
             self.assertRegex(help, rf"status: .*\b{re.escape(said)}(,|$)")
-            self.assertRegex(help, r", 2 (or more )?where something was refused$")
+            self.assertRegex(help, r", 2 or more where something was refused$")
 
     def test_other_statuses_of_the_program(self):
         """A status above 1 and its line are the script's too, wherever the program ends so; a signal is status 2."""
@@ -105,32 +102,27 @@ class Ends(unittest.TestCase):
         for script, words, _, _, _ in self.answers(most=1):
             for path, said in ((self.folder, "Permission denied"), (self.folder / "none", "No such file or directory")):
                 self.assertEqual(self.run_script(script, words, path), (2, "", f"{script}: {path}: {said}\n"))
+            for named, said in (("/o'brien/pgboard", "PGBOARD: No closing quotation: /o'brien/pgboard"), (" ", "PGBOARD has no word")):
+                self.assertEqual(self.run_script(script, words, PGBOARD=named), (2, "", f"{script}: {said}\n"))
 
-    def start(self, command, **how):
+    def start(self, command, closes="", **how):
         """Starts a command that makes temporary files in a folder of its own, and runs a program that waits; and its number."""
         temporary, number = self.folder / "temporary", self.folder / "number"
         temporary.mkdir(exist_ok=True)
-        program = self.program(f"echo $$ > {number}.new; mv {number}.new {number}; exec sleep 99")
+        program = self.program(f"echo $$ > {number}.new; mv {number}.new {number}; exec sleep 99 {closes}")
         env = {**os.environ, "PGBOARD": program, "TMPDIR": str(temporary)}
         process = subprocess.Popen(command, stdout=subprocess.PIPE, stderr=subprocess.PIPE, env=env, **how)
         self.addCleanup(process.kill)
-        self.wait_for(number.exists)
+        common.wait_until(number.exists)
         self.assertEqual(len(list(temporary.iterdir())), 1)
         return process, int(number.read_text(encoding="ascii"))
-
-    def wait_for(self, is_so):
-        for _ in range(2000):
-            if is_so():
-                return
-            time.sleep(0.01)
-        self.fail("it takes too long")
 
     def check_ended(self, process, number, program):
         """That a script was ended by a signal, said nothing of it, and left neither a file nor the program that it ran."""
         out, err = process.communicate(timeout=60)
         self.assertEqual((process.returncode, out, re.sub(b"^modelcheck: size.*\n", b"", err)), (-number, b"", b""))
         self.assertEqual(list((self.folder / "temporary").iterdir()), [])
-        self.wait_for(lambda: not common.is_alive(program))
+        common.wait_until(lambda: not common.is_alive(program))
         (self.folder / "number").unlink()
 
     def test_signals(self):
@@ -139,6 +131,28 @@ class Ends(unittest.TestCase):
                 process, program = self.start(self.command(script, words))
                 process.send_signal(number)
                 self.check_ended(process, number, program)
+
+    def test_a_signal_while_a_program_is_quiet(self):
+        """It has closed its standard error, and the script waits for its end alone."""
+        for number in SIGNALS:
+            process, program = self.start(self.command("winner", ANSWERS["winner"][0][0]), "2>&-")
+            time.sleep(0.3)
+            process.send_signal(number)
+            self.check_ended(process, number, program)
+
+    def test_a_signal_while_a_picture_is_made(self):
+        number = self.folder / "number"
+        common.write_program(self.folder / "bin" / "dot", f"#!/bin/sh\necho $$ > {number}.new; mv {number}.new {number}; exec sleep 99\n")
+        env = {**os.environ, "PATH": f"{self.folder}/bin:{os.environ['PATH']}"}
+        for it in SIGNALS:
+            process = subprocess.Popen(self.command("draw", ["--svg", BOTH[0]]), stdout=subprocess.PIPE, stderr=subprocess.PIPE, env=env)
+            self.addCleanup(process.kill)
+            common.wait_until(number.exists)
+            process.send_signal(it)
+            self.assertEqual((process.communicate(timeout=60), process.returncode), ((b"", b""), -it))
+            dot = int(number.read_text(encoding="ascii"))
+            common.wait_until(lambda dot=dot: not common.is_alive(dot))
+            number.unlink()
 
     def test_a_signal_that_is_ignored(self):
         """As by nohup."""
@@ -162,7 +176,7 @@ class Ends(unittest.TestCase):
                     env = {**os.environ, "PYTHONPATH": str(self.folder)}
                     process = subprocess.Popen(self.command(script, []), stdout=subprocess.PIPE, stderr=subprocess.PIPE, env=env)
                     self.addCleanup(process.kill)
-                    self.wait_for(here.exists)
+                    common.wait_until(here.exists)
                     process.send_signal(number)
                     self.assertEqual(process.communicate(timeout=60), (b"", b""))
                     self.assertEqual(process.returncode, -number)
@@ -204,20 +218,57 @@ with lib.undone(lambda: begin("first"), end):
                 said = re.sub(b"^modelcheck: size.*\n", b"", done.stderr).decode()
                 self.assertEqual((done.returncode, said), (2, f"{script}: standard output: No space left on device\n"))
 
+    def test_where_nothing_can_be_written_the_status_is_no_answer(self):
+        for script, words, _, _, _ in self.answers():
+            for unbuffered in ("", "1"):
+                with open("/dev/full", "wb") as device:
+                    env = {**os.environ, "PGBOARD": shlex.quote(str(common.PROGRAM)), "PYTHONUNBUFFERED": unbuffered}
+                    done = subprocess.run(self.command(script, words), stdout=device, stderr=device, env=env)
+                self.assertGreaterEqual(done.returncode, 2)
+
+    def test_the_answer_is_written_before_a_picture_is_made(self):
+        common.write_program(self.folder / "bin" / "dot", f"#!/bin/sh\ncp {self.folder}/out {self.folder}/seen\n")
+        env = {**os.environ, "PGBOARD": shlex.quote(str(common.PROGRAM)), "PYTHONUNBUFFERED": "", "PATH": f"{self.folder}/bin:{os.environ['PATH']}"}
+        for script, words, _, begins, _ in self.answers():
+            if begins != "ok\n":
+                with open(self.folder / "out", "wb") as out:
+                    command = self.command(script, [*words, "--picture", self.folder / "file.svg"])
+                    subprocess.run(command, stdout=out, stderr=subprocess.DEVNULL, env=env, check=False)
+                self.assertTrue((self.folder / "seen").read_text(encoding="ascii").startswith(begins))
+
+    def test_options_may_come_between_the_words(self):
+        wanted = self.run_script("draw", ["--svg", *BOTH[:2]])
+        self.assertEqual((wanted[0], self.run_script("draw", [BOTH[0], "--svg", BOTH[1]])), (0, wanted))
+
     def test_the_answer_comes_before_files(self):
         """Where a file can't be written, or a picture can't be made, the answer has been printed."""
+        for end in {end for files in FILES.values() for end in files.values()}:
+            (self.folder / f"full.{end}").symlink_to("/dev/full")
         for script, words, _, begins, _ in self.answers():
             for flag, end in FILES[script].items():
                 _, wanted, _ = self.run_script(script, [*words, flag, self.folder / f"file.{end}"])
                 self.assertTrue(wanted.startswith(begins))
-                got = self.run_script(script, [*words, flag, f"no/file.{end}"])
-                if wanted != "ok\n":
-                    self.assertEqual(got, (2, wanted, f"{script}: no/file.{end}: No such file or directory\n"))
+                for path, said in ((f"no/file.{end}", "No such file or directory"), (f"full.{end}", "No space left on device")):
+                    got = self.run_script(script, [*words, flag, path])
+                    if wanted != "ok\n":
+                        self.assertEqual(got, (2, wanted, f"{script}: {path}: {said}\n"))
             got = self.run_script(script, [*words, "--picture", "file.svg"], PATH="/no")
             if wanted != "ok\n":
                 said = f"{script}: file.svg: no picture without Graphviz: the command dot is not on the PATH\n"
                 self.assertEqual((got[0], got[2]), (2, said))
                 self.assertTrue(got[1].startswith(begins))
+
+    def test_the_game_comes_before_the_answer(self):
+        for script in ("modelcheck", "synthesise"):
+            for path, said in (("no/file.pg", "No such file or directory"), ("/dev/full", "No space left on device")):
+                self.assertEqual(self.run_script(script, [*ANSWERS[script][0][0], "--game", path]), (2, "", f"{script}: {path}: {said}\n"))
+
+    def test_names_are_utf_8_whatever_the_locale(self):
+        (self.folder / "named.pg").write_text('0 0 0 0 "\u03a9";', encoding="utf-8")
+        (self.folder / "named.sol").write_text("0 1;", encoding="ascii")
+        found = self.run_script("explain", ["named.pg", "named.sol"])
+        self.assertEqual((found[0], "\u03a9" in found[1], found[2]), (1, True, ""))
+        self.assertEqual(self.run_script("explain", ["named.pg", "named.sol"], PYTHONIOENCODING="latin-1"), found)
 
     def test_no_standard_error(self):
         """The size of a game, a warning and a fault do not become output then."""
@@ -241,6 +292,7 @@ with lib.undone(lambda: begin("first"), end):
             ],
         }
         texts["draw"].append((["--trace", file, BOTH[0]], long))
+        texts["convert"].append((["--min", file], f"0 {'9' * 5000} 0 0;"))
         texts["convert"] += [(["--solution", file], it) for it in (f"won by even: {'1' * 5000}", f"paritysol 0;\n{long};")]
         for script, rows in texts.items():
             for words, text in rows:

@@ -15,7 +15,6 @@ import functools
 import graphlib
 import itertools
 import re
-import sys
 import unicodedata
 import unittest
 
@@ -576,7 +575,4 @@ class Layers(unittest.TestCase):
 
 
 if __name__ == "__main__":
-    if "--write" in sys.argv[1:]:
-        (common.ROOT / "docs" / "THEOREM.md").write_text("\n".join(page(Sources())), encoding="utf-8")
-    else:
-        common.main()
+    common.write_or_test(lambda: [("docs/THEOREM.md", "\n".join(page(Sources())))])

@@ -18,13 +18,14 @@ import re
 import shlex
 import shutil
 import sys
+import time
 import unittest
 
 import common
 import plain
 import random_games
 from script_ends import Ends  # whose tests run here
-from scripts import ARENA, BODY, EXAMPLES, HEAD, MODEL, Use, called, check_kept, colour_of, even_wins, graph_of, load, rows_of
+from scripts import ARENA, BODY, EXAMPLES, HEAD, MODEL, Use, called, check_kept, colour_of, even_wins, graph_of, rows_of
 
 # --- convert.py ---
 
@@ -84,6 +85,7 @@ CONVERTED = [
     ("an automaton", [], AUTOMATON, ARENA),
     ("a listing of PGSolver", ["--solution"], LISTED, SOLUTION),
     ("a listing of Oink", ["--solution"], BY_OINK, SOLUTION),
+    ("comments of a solution", ["--solution"], "# by hand\nparitysol 1; // all\n0 0 0; # stay\n1 1 1;\n", "paritysol 1; \n0 0 0; \n1 1 1;\n"),
     ("a solution after a log", ["--solution"], "solved in 3 s\nparitysol 0;\n0 0 0;\n", "paritysol 0;\n0 0 0;\n"),
 ]
 
@@ -100,6 +102,16 @@ class Convert(Use, unittest.TestCase):
                 self.assertEqual(self.converted(flags, text), (0, wanted, ""))
                 if "-" not in flags:
                     self.assertEqual(self.run_script(*flags, self.file("given", text)), (0, wanted, ""))
+
+    def test_many_compressed_parts_take_little_time(self):
+        """Four times as many take about four times as long."""
+        took = []
+        for count in (1_000, 4_000):
+            parts = [gzip.compress(f'{v} 0 0 {v} "{random.Random(v).randbytes(300).hex()}";\n'.encode(), 1) for v in range(count)]
+            path, begun = self.file("parts", b"".join(parts)), time.process_time()
+            self.assertEqual(self.script.bytes_of(path).count(b";"), count)
+            took.append(time.process_time() - begun)
+        self.assertLess(took[1], 10 * took[0] + 0.2)
 
     def test_random_games_keep_their_winners(self):
         ways = itertools.product((0, 1), (0, 1), (0, 1), ("flag", "header", "both"))
@@ -173,11 +185,6 @@ class Convert(Use, unittest.TestCase):
                 game = "".join(f"{v} {v % 9} {v % 2} {v * v % size},{v}{end}" for v in range(size))
                 status, out, err = self.converted(flags, game)
                 self.assertEqual((status, out.count("\n"), err), (0, size + 1, ""))
-
-    def test_numbers_of_too_many_digits(self):
-        for flags, text in ((["--min"], "0 " + "9" * 5000 + " 0 0;"), (["--solution"], "won by even: " + "9" * 5000)):
-            status, out, err = self.converted(flags, text)
-            self.assertEqual((status, out, err.count("\n")), (2, "", 1))
 
 
 # --- draw.py ---
@@ -508,10 +515,7 @@ class Program(unittest.TestCase):
 
     def script(self, path, line=""):
         """A program that writes down its path and words, and then is pgboard."""
-        path = self.top / path
-        path.parent.mkdir(parents=True, exist_ok=True)
-        path.write_text(f'#!/bin/sh\necho "$0 $*" >> "{self.top}/log"\n{line}\nexec {common.PROGRAM} "$@"\n', encoding="utf-8")
-        path.chmod(0o755)
+        common.write_program(self.top / path, f'#!/bin/sh\necho "$0 $*" >> "{self.top}/log"\n{line}\nexec {common.PROGRAM} "$@"\n')
 
     def winner(self, **env):
         """Status, output and error of a script, and the programs that it ran, each with its first word."""
@@ -553,44 +557,27 @@ class Program(unittest.TestCase):
 
     def test_lines_and_columns(self):
         """No script has more than 400 lines."""
-        for path in EXAMPLES.glob("**/*.py"):
-            self.assertLessEqual(path.read_text(encoding="utf-8").count("\n"), 400, path)
+        lines = {it: it.read_text(encoding="utf-8").count("\n") for it in EXAMPLES.glob("**/*.py")}
+        self.assertGreater(len(lines), 10)
+        self.assertEqual({it: count for it, count in lines.items() if count > 400}, {})
 
 
 class Refused(unittest.TestCase):
     """Each script says in one line, or after its usage, where and why it refuses its words or a text."""
 
-    def refused(self, script, command, text):
-        """Status, output and errors of a script: as a process where it isn't refused by its own code in this one.
-
-        (convert.py imports a script that has the name of one in this folder.)
-        """
-        scripts = self.__dict__.setdefault("scripts", {})
-        if script != "convert":
-            try:
-                called(scripts.setdefault(script, load(script)), command[3:], text)
-            except scripts[script].games.Refused as refused:
-                return 2, b"", f"{script}: {refused}"
-            except (OSError, SystemExit):
-                pass
-        env = {**os.environ, "PGBOARD": shlex.quote(str(common.PROGRAM))}
-        status, out, err = common.run(command, text, timeout=600, cwd=common.ROOT, env=env)
-        return status, out, err.decode()
-
     def test_each_row(self):
-        os.chdir(common.ROOT)
         folder = common.make_folder(self)
         (folder / "model.aut").write_text(MODEL, encoding="ascii")
         (folder / "trace").write_bytes(common.program("trace", "--workers", "1", EXAMPLES / "requests.pg")[1])
-        file = str(folder / "file")
+        file, env = str(folder / "file"), {**os.environ, "PGBOARD": shlex.quote(str(common.PROGRAM))}
         for script, words, place, said, text in rows_of("refused.txt"):
             with self.subTest(script, words=words, text=text):
                 text = text.replace("THE_HEAD", HEAD).replace("THE_BODY", BODY).encode().decode("unicode_escape")
                 pathlib.Path(file).write_bytes(text.encode("latin-1"))
                 named = {"FILE": file, "MODEL": str(folder / "model.aut"), "TRACE": str(folder / "trace"), "TEXT": text}
                 command = [sys.executable, "-B", EXAMPLES / f"{script}.py", *(named.get(it, it) for it in shlex.split(words))]
-                status, out, err = self.refused(script, command, text.encode("latin-1"))
-                *usage, line = [it for it in err.splitlines() if "size of the game" not in it]
+                status, out, err = common.run(command, text.encode("latin-1"), timeout=600, cwd=common.ROOT, env=env)
+                *usage, line = [it for it in err.decode().splitlines() if "size of the game" not in it]
                 self.assertEqual((status, out), (2, b""))
                 self.assertTrue(not usage or usage[0].startswith("usage: "), err)
                 place = place.replace("FILE", file).replace("TRACE", named["TRACE"])

@@ -7,7 +7,6 @@ import random
 import sys
 import tempfile
 import threading
-import time
 import unittest
 from array import array
 from unittest import mock
@@ -287,15 +286,15 @@ class Calls(Tests):
             self.assertEqual(pgboard.solve(*game, **how)[0], [0] * 200)
             self.assertEqual(pgboard.solve(*TWO, **how), ([0, 1], [0, 1]))
             self.assertEqual(pgboard.solve_text(GAME, **how), "paritysol 9;\n3 0 3;\n9 1 9;\n")
-        self.assertEqual(pgboard.solve(*TWO, timeout=0), ([0, 1], [0, 1]))
-        with self.assertRaises(pgboard.TimedOut):
-            pgboard.solve(*game, timeout=0)
-        # a cancel ends each later call that may take long
+        for of_any_size in (game, TWO):
+            with self.assertRaises(pgboard.TimedOut):
+                pgboard.solve(*of_any_size, timeout=0)
+        # a cancel ends each later call
         cancel.cancel()
         cancel.cancel()
-        for _ in range(2):
+        for of_any_size in (game, TWO, game, TWO):
             with self.assertRaises(pgboard.Cancelled):
-                pgboard.solve(*game, cancel=cancel)
+                pgboard.solve(*of_any_size, cancel=cancel)
         self.assertEqual(pgboard.solve(*game)[0], [0] * 200)
 
     def test_each_call_has_its_limits(self):
@@ -444,10 +443,10 @@ class Slices(Tests):
         def take(steps):
             given.append(steps)
             if len(given) <= searches:
-                return False, 0
+                return slices.Slice(False, 0, 0)
             used = min(steps, needed - take.used)
             take.used += used
-            return take.used == needed and (used < steps or needed > 0), used
+            return slices.Slice(take.used == needed and (used < steps or needed > 0), used, 0)
 
         take.used = 0
         return take, given
@@ -464,16 +463,16 @@ class Slices(Tests):
                 self.assertEqual((is_enough, steps is None or take.used <= steps + 1), (steps is None or steps >= needed, True), (needed, steps))
         self.assertGreater(max(given), 1)
 
-    def by_clock(self, cost, limits=slices.Limits(), needed=10**9, slowest=None, vertices=5):
-        """The seconds that each slice of a call takes, where a step takes so many; and what ended it."""
+    def by_clock(self, cost, limits=slices.Limits(), needed=10**9, slowest=None, vertices=5, wait=0):
+        """The seconds that each slice of a call takes, where a step takes so many, after a wait for its turn; and what ended the call."""
         now, took = [100.0], []
         take, _ = self.counting(needed, searches=0)
 
         def slow(steps):
             found = take(steps)
-            took.append(found[1] * (cost if slowest is None or now[0] < 101 else slowest))
-            now[0] += took[-1]
-            return found
+            took.append(found.steps * (cost if slowest is None or now[0] < 101 else slowest))
+            now[0] += wait + took[-1]
+            return found._replace(seconds=took[-1])
 
         with mock.patch.object(slices.time, "monotonic", lambda: now[0]):
             return took, outcome_of(lambda: slices.advance(slow, vertices, limits, None))
@@ -485,6 +484,9 @@ class Slices(Tests):
             self.assertLessEqual(max(took), 0.03, cost)
             self.assertGreaterEqual(min(took[20:]), 0.01, cost)
         self.assertEqual(set(self.by_clock(0.5, slices.Limits(timeout=5))[0]), {0.5})
+        # (a wait is no part of a slice)
+        took, _ = self.by_clock(1e-6, slices.Limits(timeout=20), wait=0.05)
+        self.assertTrue(0.01 <= min(took[20:]) <= max(took) <= 0.03)
         # (the steps get slow in the middle: a slice or two are long, and then none)
         took, _ = self.by_clock(1e-6, slices.Limits(timeout=60), slowest=1e-3)
         late = took[[it > 0.03 for it in took].index(True) :]
@@ -506,7 +508,7 @@ class Slices(Tests):
 
         def take(steps):
             take.cancel.cancel()
-            return False, steps
+            return slices.Slice(False, steps, 0)
 
         take.cancel = pgboard.Cancel()
         with self.assertRaises(pgboard.Cancelled):

@@ -1,6 +1,5 @@
 """Tests of the package pgboard, by unittest."""
 
-import argparse
 import ast
 import ctypes
 import ctypes.util
@@ -15,6 +14,7 @@ import shutil
 import subprocess
 import sys
 import tempfile
+import types
 import typing
 import unittest
 from array import array
@@ -24,11 +24,6 @@ import pgboard
 sys.path.append(str(pathlib.Path(__file__).resolve().parent.parent.parent / "tests"))
 import plain
 
-sys.path.append(str(pathlib.Path(__file__).resolve().parent.parent.parent / "examples"))
-try:
-    import convert
-except ImportError:
-    convert = None
 try:
     import networkx
 except ImportError:
@@ -229,6 +224,9 @@ class Arrays(Tests):
         self.refused(pgboard.BadChoice, 0, 0, pgboard.verify, *TWO, [0, 1], [2**32 - 1, 1])
         self.refused(pgboard.Leaves, 0, 1, pgboard.verify, *TWO, [0, 1], [1, 1])
         self.refused(pgboard.BadCycle, 1, 0, pgboard.verify, *TWO, [0, 0], [0, None])
+        for wrong in (0.5, -0.5, 1e10, float("nan"), "0"):
+            with self.assertRaises(TypeError):
+                pgboard.verify(*TWO, [0, 1], [wrong, 1])
 
     def test_refuses_what_is_known(self):
         self.refused(pgboard.KnownChoice, 0, 0, pgboard.solve, *TWO, known=([0, None], [None, None]))
@@ -295,11 +293,24 @@ class Buffers(Tests):
             self.refused(pgboard.BadWinner, 1, 0, pgboard.solve_csr, *CSR, known=(array("q", [0, far]), array("q", [0, 1])))
         for far in (-1, 2**32 - 2, 2**32, 2**40):
             self.refused(pgboard.BadChoice, 0, 0, pgboard.verify_csr, *CSR, array("q", [0, 1]), array("q", [far, 1]))
+        # -1 is never none, whatever its size
+        for letter in "bhiq":
+            less = array(letter, [-1, 1])
+            self.refused(pgboard.BadWinner, 0, 0, pgboard.solve_csr, *CSR, known=(less, [0, 1]))
+            self.refused(pgboard.BadChoice, 0, 0, pgboard.verify_csr, *CSR, [0, 1], less)
+            with pgboard.Board.from_csr(*CSR) as board:
+                self.refused(pgboard.BadShape, 0, 0, board.post_arrays, 1, [0, 1], less)
+
+    def test_a_successor_that_was_changed_since_is_named_as_the_library_read_it(self):
+        for indptr, indices in (([0, 1, 2], [0, 0]), ([0, 1], [9]), ([0, 1, 2], [])):
+            fault = pgboard.arrays.as_given(pgboard.UnknownSuccessor(1, 7), memoryview(array("I", indptr)), array("I", indices))
+            self.assertEqual((type(fault), fault.at, fault.to), (pgboard.UnknownSuccessor, 1, 7))
 
     def test_refuses_the_other_order_of_bytes(self):
         for at, kind in enumerate((ctypes.c_uint16, ctypes.c_uint32, ctypes.c_int32, ctypes.c_int64)):
             swapped = (kind.__ctype_be__ * len(CSR[at]))(*CSR[at])
-            with self.subTest(at=at), self.assertRaisesRegex(TypeError, f"integers in one dimension is needed, not one of items '>.' of {ctypes.sizeof(kind)} bytes$"):
+            said = f"integers in one dimension is needed, not one of items '>.' of {ctypes.sizeof(kind)} bytes$"
+            with self.subTest(at=at), self.assertRaisesRegex(TypeError, said):
                 pgboard.solve_csr(*CSR[:at], swapped, *CSR[at + 1 :])
 
     @unittest.skipUnless(numpy, "NumPy is not installed")
@@ -359,8 +370,9 @@ class Buffers(Tests):
         self.assertEqual((run.communicate(timeout=60), run.returncode), (("", ""), 0))
 
     def test_refuses_other_items(self):
-        for at, other in [(0, {0, 1}), (0, b""[:0].join), (1, array("f", [2, 1])), (1, array("d", [2, 1])), (2, memoryview(bytes(24)).cast("I")[::2]), (3, "01")]:
-            with self.subTest(at=at, other=other), self.assertRaisesRegex(TypeError, f"^{['owners', 'priorities', 'indptr', 'indices'][at]}: a contiguous buffer"):
+        names, gaps = ("owners", "priorities", "indptr", "indices"), memoryview(bytes(24)).cast("I")[::2]
+        for at, other in [(0, {0, 1}), (0, b""[:0].join), (1, array("f", [2, 1])), (1, array("d", [2, 1])), (2, gaps), (3, "01")]:
+            with self.subTest(at=at, other=other), self.assertRaisesRegex(TypeError, f"^{names[at]}: a contiguous buffer"):
                 pgboard.solve_csr(*CSR[:at], other, *CSR[at + 1 :])
 
     def test_takes_lists(self):
@@ -380,17 +392,21 @@ class Buffers(Tests):
                 with self.assertRaisesRegex(TypeError, f"^{name}: a list of integers is needed: "):
                     pgboard.solve_csr(*lists[:at], wrong, *lists[at + 1 :])
 
-    @unittest.skipUnless(scipy, "SciPy is not installed")
+    def matrices(self, rows, width):
+        """Rows as matrices in the form csr: with the fields that SciPy's have, and SciPy's own where it is installed."""
+        starts, targets = csr_of([], [], list(map(sorted, rows)))[2:]
+        yield types.SimpleNamespace(format="csr", indptr=array("i", starts), indices=array("i", targets))
+        if scipy:
+            dense = numpy.zeros((len(rows), width), "i8")
+            for v, row in enumerate(rows):
+                dense[v, row] = 1 + v
+            yield from (kind(dense) for kind in (scipy.sparse.csr_matrix, scipy.sparse.csr_array))
+
     def test_takes_a_matrix_of_scipy(self):
         for seed in range(30):
             owners, priorities, rows = random_game(random.Random(seed))
-            size = len(owners)
-            dense = numpy.zeros((size, size), "i8")
-            for v, row in enumerate(rows):
-                dense[v, row] = 1 + v
             wanted = pgboard.solve(owners, priorities, rows)[0]
-            for kind in (scipy.sparse.csr_matrix, scipy.sparse.csr_array):
-                matrix = kind(dense)
+            for matrix in self.matrices(rows, len(owners)):
                 found = pgboard.solve_csr(owners, priorities, matrix)
                 self.assertEqual(list(found.winners), wanted)
                 pgboard.verify_csr(owners, priorities, matrix, None, *found)
@@ -398,11 +414,14 @@ class Buffers(Tests):
                     board.finish()
                     self.assertEqual(list(board.solution().winners), wanted)
         # (a column-compressed one has the same fields, by which each edge would go the other way)
-        for wrong in (matrix.tocsc(), matrix.tocoo(), numpy.array([0, 1]), [0, 2, 3]):
+        columns = types.SimpleNamespace(**{**vars(next(self.matrices([[0], [1]], 2))), "format": "csc"})
+        for wrong in (columns, *([matrix.tocsc(), matrix.tocoo(), numpy.array([0, 1])] if scipy else []), array("I", [0, 1]), [0, 2, 3]):
             with self.assertRaisesRegex(TypeError, "^indices: without them a SciPy matrix in the form csr is needed for indptr, not "):
                 pgboard.solve_csr(owners, priorities, wrong)
-        self.refused(pgboard.BadLengths, 2, 0, pgboard.solve_csr, [0, 1], [2, 1], scipy.sparse.csr_matrix(numpy.ones((3, 2))))
-        self.refused(pgboard.UnknownSuccessor, 0, 2, pgboard.solve_csr, [0, 1], [2, 1], scipy.sparse.csr_matrix(numpy.ones((2, 3))))
+        for matrix in self.matrices([[0, 1]] * 3, 2):
+            self.refused(pgboard.BadLengths, 2, 0, pgboard.solve_csr, [0, 1], [2, 1], matrix)
+        for matrix in self.matrices([[0, 1, 2]] * 2, 3):
+            self.refused(pgboard.UnknownSuccessor, 0, 2, pgboard.solve_csr, [0, 1], [2, 1], matrix)
 
     @unittest.skipUnless(numpy, "NumPy is not installed")
     def test_takes_truth_values_of_numpy(self):
@@ -431,74 +450,6 @@ class Buffers(Tests):
         refused(pgboard.BadPriority, 0, 0, (1, array("i", [-1, 1])))
         refused(pgboard.UnknownSuccessor, 1, 2, (3, array("I", [0, 1, 2])))
         refused(pgboard.UnknownSuccessor, 0, -1, (3, array("i", [0, -1, 1])))
-
-
-def by_convert(owners, priorities, rows, dead_ends=False, least=False):
-    """The game that examples/convert.py makes, as lists."""
-    text = "".join(f"{v} {p} {o} {','.join(map(str, row))};\n" for v, (o, p, row) in enumerate(zip(owners, priorities, rows)))
-    flags = argparse.Namespace(dead_ends=dead_ends, min=least, odd=False)
-    made = b"".join(convert.Game("-", text.encode(), flags).lines()).decode()
-    lines = [line.rstrip(";").split() for line in made.splitlines()[1:]]
-    return [int(it[2]) for it in lines], [int(it[1]) for it in lines], [list(map(int, it[3].split(","))) for it in lines]
-
-
-class Rules(Tests):
-    """`dead_ends` and `least`: the games that examples/convert.py makes with the same flags, and the winners by the definition."""
-
-    def game(self, seed, has_dead_ends):
-        numbers = random.Random(seed)
-        owners, priorities, rows = random_game(numbers)
-        if has_dead_ends:
-            rows = [[] if numbers.random() < 0.3 else row for row in rows]
-        return owners, priorities, [sorted(set(row)) for row in rows]
-
-    @unittest.skipUnless(convert, "examples/convert.py is not here")
-    def test_are_those_of_convert(self):
-        for seed in range(90):
-            how = [{"dead_ends": True}, {"least": True}, {"dead_ends": True, "least": True}][seed % 3]
-            game = self.game(seed, "dead_ends" in how)
-            other = by_convert(*game, **how)
-            csr = csr_of(*game)
-            winners, choices = pgboard.solve(*game, **how)
-            # (the made game is solved by the definition)
-            solution = {v: (p, o, set(row)) for v, (o, p, row) in enumerate(zip(*other))}
-            self.assertEqual(dict(enumerate(winners)), plain.recursion(solution)[0], (game, how))
-            self.assertEqual((winners, choices), pgboard.solve(*other), (game, how))
-            self.assertEqual(pgboard.solve_csr(*csr, **how), pgboard.solve_csr(*csr_of(*other)))
-            self.assertEqual(pgboard.solve_csr(*map(list, csr), **how), pgboard.solve_csr(*csr_of(*other)))
-            pgboard.verify(*game, winners, choices, **how)
-            pgboard.verify_csr(*csr, *pgboard.solve_csr(*csr, **how), **how)
-            for board in (pgboard.Board(*game, **how), pgboard.Board.from_csr(*csr, **how)):
-                board.finish()
-                self.assertEqual(list(board.solution().winners), winners)
-            for v, winner in enumerate(winners):
-                damaged = winners[:v] + [1 - winner] + winners[v + 1 :]
-                with self.assertRaises(pgboard.NotASolution):
-                    pgboard.verify(*game, damaged, choices, **how)
-
-    def test_a_dead_end_is_lost_by_its_owner(self):
-        self.assertEqual(pgboard.solve([0, 1, 0, 1], [7, 8, 0, 0], [[], [], [0, 1], [0, 1]], dead_ends=True), ([1, 0, 0, 1], [None, None, 1, 0]))
-        with self.assertRaises(pgboard.NoSuccessor):
-            pgboard.solve([0], [0], [[]])
-
-    def test_the_least_priority_decides(self):
-        # a cycle of 1 and 2, and one of 2 and 3
-        game = [0, 0, 1, 1], [1, 2, 2, 3], [[1], [0], [3], [2]]
-        self.assertEqual((pgboard.solve(*game)[0], pgboard.solve(*game, least=True)[0]), ([0, 0, 1, 1], [1, 1, 0, 0]))
-
-    def test_faults_are_those_of_what_is_given(self):
-        for how in ({"dead_ends": True}, {"least": True}, {"dead_ends": True, "least": True}):
-            self.refused(pgboard.BadLengths, 1, 0, pgboard.solve, [0], [0, 1], [[0]], **how)
-            self.refused(pgboard.BadLengths, 2, 0, pgboard.solve, [0, 0], [0, 1], [[0]], **how)
-            self.refused(pgboard.BadOwner, 1, 0, pgboard.solve, [0, 2], [0, 1], [[0], [0]], **how)
-            self.refused(pgboard.BadPriority, 1, 0, pgboard.solve, [0, 0], [0, 2**31], [[0], [0]], **how)
-            self.refused(pgboard.NoVertex, 0, 0, pgboard.solve, [], [], [], **how)
-            self.refused(pgboard.BadRow, 0, 0, pgboard.solve_csr, [0, 0], [0, 0], [0, 3, 2], [0, 1], **how)
-            self.refused(pgboard.BadRow, 0, 0, pgboard.solve_csr, [0, 0, 0], [0, 0, 0], [0, 9, 9, 2], [0, 1], **how)
-            self.refused(pgboard.BadLengths, 3, 0, pgboard.solve_csr, [0, 0], [0, 0], [0, 0, 1], [0, 1], **how)
-        self.refused(pgboard.UnknownSuccessor, 1, -7, pgboard.solve, [0, 0], [0, 0], [[], [-7]], dead_ends=True)
-        self.refused(pgboard.UnknownSuccessor, 2, 2**32 + 1, pgboard.solve_csr, [0] * 3, [0] * 3, [0, 0, 1, 2], array("q", [1, 2**32 + 1]), dead_ends=True)
-        self.refused(pgboard.NoSuccessor, 0, 0, pgboard.solve, [0, 0], [0, 0], [[], [0]], least=True)
 
 
 class Faults(Tests):
@@ -662,7 +613,8 @@ class Package(Tests):
         self.assertEqual(pgboard.Solution._fields, ("winners", "choices"))
 
     def mypy(self, *words):
-        ran = subprocess.run(["mypy", "--strict", "--cache-dir", os.devnull, *words], capture_output=True, text=True, env={**os.environ, "MYPYPATH": os.path.dirname(os.path.dirname(pgboard.__file__))})
+        env = {**os.environ, "MYPYPATH": os.path.dirname(os.path.dirname(pgboard.__file__))}
+        ran = subprocess.run(["mypy", "--strict", "--cache-dir", os.devnull, *words], capture_output=True, text=True, env=env)
         return ran.returncode, ran.stdout + ran.stderr
 
     @unittest.skipUnless(shutil.which("mypy"), "mypy is not installed")

@@ -25,6 +25,7 @@ import lib
 
 import contextlib
 import re
+import select
 import shlex
 import signal
 import subprocess
@@ -44,14 +45,14 @@ HELP = """
 examples:
   examples/board/referee.py --solver 'oink {game} {solution}' game.pg
   examples/board/referee.py --time 5 --picture run.svg \\
-      --solver 'a-solver {game}' --solver 'another < {game}' game.pg
+      --solver 'a-solver {game}' --solver 'another' game.pg
 
 status: 0 where the solution is printed, 2 where something was refused
 """
 # a solver may print so many bytes; a text that pgboard takes is not longer
 MOST = 268_435_456
 NUMBER, BLANKS = "0*([0-9]{1,10})", r"[ \t\r\n]"
-LINE = re.compile(f"{BLANKS}*(?:paritysol{BLANKS}*[0-9]+|{NUMBER}{BLANKS}+0*([01])(?:{BLANKS}+{NUMBER})?)?{BLANKS}*")
+LINE = re.compile(f"(?:paritysol{BLANKS}*[0-9]+|{NUMBER}{BLANKS}+0*([01])(?:{BLANKS}+{NUMBER})?)?")
 # no vertex of any game
 NO_VERTEX = -1
 COLOURS = ("#8a8a8a", "#2563a8", "#d97706", "#15803d", "#b91c1c", "#7c3aed", "#0e7490", "#a16207", "#be185d")
@@ -114,7 +115,7 @@ def lines_of(text):
     a solver may be ended as it prints."""
     at = 0
     for piece in text.split(";")[:-1]:
-        line = LINE.fullmatch(piece)
+        line = LINE.fullmatch(piece.strip(" \t\r\n"))
         if not line:
             blanks = len(piece) - len(piece.lstrip())
             raise Refused(f"line {text.count(chr(10), 0, at + blanks) + 1} is of no solution")
@@ -147,7 +148,7 @@ class Solver:
                 self.process = subprocess.Popen(words, stdin=given, stdout=out, start_new_session=True)
         timer = threading.Timer(limit, self.end, [f"ended after {limit:g} s"])
         timer.start()
-        printed = b"" if writes_file else self.process.stdout.read(MOST + 1)
+        printed = b"" if writes_file else self.printed()
         if len(printed) > MOST:
             self.end("ended, since it printed too much")
         self.process.wait()
@@ -158,6 +159,20 @@ class Solver:
             with open(paths["{solution}"], "rb") as file:
                 printed = file.read(MOST + 1)
         return printed[:MOST].decode("utf-8", "replace")
+
+    def printed(self):
+        """What the command prints until it ends or is ended; what it has started in a session of its own may keep the pipe open."""
+        found = bytearray()
+        with self.process.stdout as pipe:
+            os.set_blocking(pipe.fileno(), False)
+            while len(found) <= MOST:
+                was_ended = self.why
+                select.select([pipe], [], [], 0.1)
+                piece = pipe.read(1 << 20)
+                found += piece or b""
+                if piece == b"" or was_ended:
+                    break
+        return bytes(found)
 
     def end(self, why=""):
         """Ends the command and all that it has started."""

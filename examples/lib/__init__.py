@@ -7,6 +7,7 @@ there are none it ends the script at once. A script imports this folder first, b
 import contextlib
 import os
 import signal
+import sys
 
 # the calls that a signal makes before it ends the script, the last one first
 undo = []
@@ -60,6 +61,16 @@ def undone(begin, end):
             last()
             if not undo:
                 on_signals(signal.SIG_DFL)
+
+
+def read(path):
+    """The bytes of a file, or for `-` of standard input. A fault names it: that of a failed read, other than of a failed open, does not."""
+    try:
+        with sys.stdin.buffer if path == "-" else open(path, "rb") as file:
+            return file.read()
+    except OSError as error:
+        error.filename = "standard input" if path == "-" else path or "''"
+        raise
 
 
 on_signals(signal.SIG_DFL)

@@ -192,7 +192,6 @@ path.__name__ = "circuit (.aag, .aig or -)"
 def write(name, circuit):
     """Writes a circuit to a file; to none for `-`."""
     if name.endswith(".aig"):
-        with open(name, "wb") as file:
-            file.write(circuit.data())
+        games.write_bytes(name, circuit.data())
     elif name != "-":
         games.write(name, circuit.text())

@@ -39,6 +39,7 @@ FOREIGN = {
     "comment": (r"#|//", "a comment begins here: examples/convert.py removes comments"),
     "least": (r"\bmin-?parity\b", "here the least priority decides: examples/convert.py turns it into the greatest, as with --min"),
     "greatest": (r"\bmax-?parity\b", "this header is not read: examples/convert.py writes `parity` in its place"),
+    "solution": (r"\bparitysol\b", "a solution begins here, where a game has to be"),
     "automaton": (r"\bHOA:", "an automaton begins here: examples/convert.py makes its game"),
     "listing": (r"(?i:\bplayer [01] wins|\bwon by )", "a listing of winners begins here: examples/convert.py --solution reads it"),
     "dimacs": (r"(?m:^[ \t]*[pc][ \t])", "a line of the DIMACS formats begins here: no flag of examples/convert.py reads these"),
@@ -47,7 +48,7 @@ FOREIGN = {
         "a vertex without successors: examples/convert.py --dead-ends gives it an edge",
     ),
 }
-FOREIGNER = re.compile("|".join(f"(?P<{name}>{found})" for name, (found, _) in FOREIGN.items()) + '|"[^"]*"')
+FOREIGNER = re.compile("|".join(f"(?P<{name}>{found})" for name, (found, _) in FOREIGN.items()) + '|"[^"]*(?:"|$)')
 
 
 def printable(text):
@@ -86,7 +87,7 @@ def run(name, main):
         for stream, spelled in ((sys.stdin, "standard input"), (sys.stdout, "standard output")):
             if stream is None:
                 raise Refused(f"{spelled} is closed")
-        sys.stdout.reconfigure(errors="surrogateescape")
+        sys.stdout.reconfigure(encoding="utf-8", errors="surrogateescape")
         sys.setrecursionlimit(10_000)
         # what a script makes lasts to its end, and to look for what does not takes as long as to make it
         gc.disable()
@@ -95,11 +96,8 @@ def run(name, main):
         finally:
             sys.stdout.flush()
         sys.exit(status)
-    except Refused as refused:
+    except (Refused, Ended) as refused:
         fault = refused
-    except Ended as ended:
-        sys.stderr.write(ended.said)
-        sys.exit(ended.status)
     except RecursionError:
         fault = "nested too deeply"
     except MemoryError:
@@ -108,8 +106,10 @@ def run(name, main):
         fault = Refused(f"{error.filename or 'standard output'}: {error.strerror}")
         # what is still to be written is not tried once more
         os.dup2(os.open(os.devnull, os.O_WRONLY), 1)
-    print(f"{name}: {fault}", file=sys.stderr)
-    sys.exit(2)
+    # (where this can't be written, the status says so alone: Python's own would be 1, an answer)
+    with contextlib.suppress(OSError):
+        sys.stderr.write(fault.said if isinstance(fault, Ended) else f"{name}: {fault}\n")
+    sys.exit(fault.status if isinstance(fault, Ended) else 2)
 
 
 class Parser(argparse.ArgumentParser):
@@ -130,8 +130,7 @@ def called(path):
 
 def text_of(path):
     """The text of a file, or for `-` of standard input."""
-    with sys.stdin.buffer if path == "-" else open(path, "rb") as file:
-        data = file.read()
+    data = lib.read(path)
     for begins, why in BEGINNINGS.items():
         if data.startswith(begins):
             raise Refused(f"{called(path)}: {why}")
@@ -146,8 +145,16 @@ def texts_of(*paths):
 
 
 def write(path, text):
-    with open(path, "w", encoding="utf-8", errors="surrogateescape", newline="") as file:
-        file.write(text)
+    write_bytes(path, text.encode("utf-8", "surrogateescape"))
+
+
+def write_bytes(path, data):
+    """Writes a file, and names it where it can't be written: a failed write, other than a failed open, doesn't."""
+    try:
+        with open(path, "wb") as file:
+            file.write(data)
+    except OSError as error:
+        raise Refused(f"{path}: {error.strerror}") from None
 
 
 def place(path, text, at):
@@ -165,7 +172,7 @@ def hints(game, solution=None):
     try:
         yield
     except (Refused, Ended):
-        for it, others in ((game, ("listing",)), (solution, ("dead", "automaton", "least", "greatest"))):
+        for it, others in ((game, ("listing",)), (solution, ("dead", "automaton", "least", "greatest", "solution"))):
             for found in FOREIGNER.finditer(it[1]) if it else ():
                 if found.lastgroup and found.lastgroup not in others:
                     begins = found.end() - len(found[0].lstrip())
@@ -177,7 +184,7 @@ def program():
     """The words that run pgboard: PGBOARD's, else this clone's build, a proved one before another, else the PATH's."""
     named, launcher = os.environ.get("PGBOARD"), os.path.join(TOP, "pgboard")
     if named:
-        return [named] if os.path.isfile(named) else shlex.split(named)
+        return [named] if os.path.isfile(named) else words_of(named)
     there = lambda *path: os.path.isfile(os.path.join(TOP, *path))
     if there("out", "proved", "pgboard") or there("crates", "pgboard_program", "out", "pgboard_program"):
         return [launcher]
@@ -186,6 +193,17 @@ def program():
     if shutil.which("pgboard"):
         return ["pgboard"]
     raise Refused(NO_PROGRAM)
+
+
+def words_of(named):
+    """The words of a command, as a shell splits them."""
+    try:
+        words = shlex.split(named)
+    except ValueError as error:
+        raise Refused(f"PGBOARD: {error}: {shown(named)}") from None
+    if not words:
+        raise Refused("PGBOARD has no word")
+    return words
 
 
 warned = set()
@@ -208,7 +226,9 @@ def folder():
 
 def end(process):
     process.kill()
-    process.wait()
+    # (a signal may interrupt `process.wait`, whose lock can't be taken twice)
+    with contextlib.suppress(ChildProcessError):
+        os.waitpid(process.pid, 0)
 
 
 def pgboard(*words):
@@ -327,10 +347,10 @@ def solution_of(path, text):
     solution = {}
     for words, line in statements(path, text):
         row = CHOICE.fullmatch(words)
-        if row:
+        if row and int(row[1]) not in solution:
             solution[int(row[1])] = int(row[2]), row[3] and int(row[3]), line
-        elif solution or not SOLUTION.fullmatch(words):
-            raise Refused(f"{called(path)}:{line}: not understood: {shown(words)}")
+        elif row or solution or not SOLUTION.fullmatch(words):
+            raise Refused(f"{called(path)}:{line}: {f'vertex {row[1]} is written twice' if row else f'not understood: {shown(words)}'}")
     return solution
 
 
@@ -365,15 +385,16 @@ def write_picture(path, count, text):
             text = pictured(text, kind)
         except Refused as refused:
             raise Refused(f"{path}: {refused}") from None
-    with open(path, "wb") as file:
-        file.write(text)
+    write_bytes(path, text)
 
 
 def pictured(text, kind):
     """The picture that Graphviz makes of its text."""
     if not shutil.which("dot"):
         raise Refused("no picture without Graphviz: the command dot is not on the PATH")
-    done = subprocess.run(["dot", f"-T{kind}"], input=text, stdout=subprocess.PIPE, stderr=subprocess.DEVNULL)
-    if done.returncode:
-        raise Refused(f"the command dot ended with status {done.returncode}")
-    return done.stdout
+    how = {"stdin": subprocess.PIPE, "stdout": subprocess.PIPE, "stderr": subprocess.DEVNULL}
+    with lib.undone(lambda: subprocess.Popen(["dot", f"-T{kind}"], **how), end) as process:
+        made, _ = process.communicate(text)
+    if process.returncode:
+        raise Refused(f"the command dot ended with status {process.returncode}")
+    return made

@@ -36,7 +36,7 @@ class Text(Tokens):
         return int(self.take("a number").text)
 
     def string(self):
-        return self.take("a string").text[1:-1]
+        return re.sub(r"(?s)\\(.)", r"\1", self.take("a string").text[1:-1])
 
 
 def parity_formula(greatest, odd, count):
@@ -182,13 +182,14 @@ class Automaton:
             tokens.refuse(f"state {state} is described twice", at)
         self.places[state] = at
         self.called[state] = tokens.string() if tokens.next_is("a string") else ""
-        here, edges = self.sets(), []
+        here, edges, seen = self.sets(), [], 0
         implied = common is None and tokens.next_is("a number")
         while not tokens.next_is("State:", "--END--"):
             at = tokens.at()
             letters = self.implied(len(edges)) if implied else self.bracket() if common is None else common
-            if self.owners is None and any(letters & it[0] for it in edges):
+            if self.owners is None and letters & seen:
                 tokens.refuse(f"not deterministic: an edge of state {state} before this one takes a letter of it", at)
+            seen |= letters
             at, target = tokens.at(), tokens.number(self.states)
             self.targets.setdefault(target, at)
             edges.append((letters, self.priority(here + self.sets()), target))

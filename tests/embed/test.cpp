@@ -109,11 +109,13 @@ static void views()
     const std::array<std::uint32_t, 2> priorities{2, 1};
     const std::vector<std::uint32_t> starts{9, 0, 2, 3, 9};
     const std::uint32_t targets[] = {0, 1, 1};
-    const pgboard::game_view game({owners, 2}, priorities, {starts.data() + 1, 3}, {targets, 3});
+    const pgboard::game_view game(owners, priorities, {starts.data() + 1, 3}, {targets, 3});
     const auto found = pgboard::solve(game);
     EXPECT((found.winners == std::vector<std::uint8_t>{0, 1}) && (found.choices == std::vector<std::uint32_t>{0, 1}));
     const std::uint8_t known[] = {PGBOARD_NO_WINNER, 1};
     EXPECT(pgboard::solve(game, {{known, 2}, found.choices}).winners == found.winners);
+    std::uint32_t rows_of_game[] = {0, 2, 3};
+    EXPECT(pgboard::solve({owners, priorities, rows_of_game, targets}, {known, found.choices}).choices == found.choices);
     EXPECT((pgboard::check(game, {found.winners, {found.choices.data(), 2}}), true));
     EXPECT(refuses(PGBOARD_SOLUTION, PGBOARD_ARRAY_CHOICES, 0, [&] { pgboard::check(game, {found.winners, {found.choices.data(), 1}}); }));
     pgboard::board board(game);
@@ -168,6 +170,7 @@ static void readers()
     }
     EXPECT(next == 40 && same.journal().size() == 20 && same.journal()[19].worker == 38 && same.entry(3).worker == 6);
     EXPECT(std::distance(same.journal().begin(), same.journal().end()) == 20);
+    EXPECT(same.journal().begin()->worker == 0 && std::next(same.journal().begin(), 2)->vertices == same.entry(2).vertices);
     EXPECT(same.settled() == 40 && same.entries() == 20 && same.state().choices == same.solution().choices);
     // entries that are added on the way follow
     pgboard::board other(loops(10, 1));

@@ -50,8 +50,9 @@ def solve_csr(
 ) -> Solution:
     """Solves a game in compressed sparse rows: vertex v has the successors indices[indptr[v]:indptr[v + 1]].
 
-    The arguments are buffers or lists of integers. Buffers of 8 bits for `owners`, and of 32 bits for the others, are read where they
-    are; of others a copy is made. A SciPy matrix in the form csr may stand for both `indptr` and `indices`: what it stores are edges.
+    The arguments are buffers or lists of integers, which are copied. Buffers of 8 bits for `owners`, and of 32 bits for the others, are
+    copied as they are; those of other items are converted before. A SciPy matrix in the form csr may be given for both `indptr` and
+    `indices`: what it stores are edges.
     Returns arrays of the winners and of their choices, which have NO_CHOICE where the winner doesn't own the vertex.
 
     `known` has winners (NO_WINNER where there is none) and choices in the same form. `steps` bounds Zielonka's recursion, which takes
@@ -64,10 +65,10 @@ def solve_csr(
         raise TypeError("known and steps can't be given together")
     number, limits = bound(steps), limits_of(timeout, cancel)
     rows = rows_of_matrix(indptr, indices)
-    game = game_views(owners, priorities, *rows, dead_ends, least)
-    claims = None if known is None else claim_views(*known)
+    game = owned(game_views(owners, priorities, *rows, dead_ends, least))
+    claims = None if known is None else owned(claim_views(*known))
     try:
-        return solve_arrays(owned(game), None if claims is None else owned(claims), number, limits)
+        return solve_arrays(game, claims, number, limits)
     except faults.UnknownSuccessor as fault:
         raise as_given(fault, view_of("indptr", rows[0], "I"), rows[1]) from None
 

@@ -60,6 +60,8 @@ INTEGERS = "?bBhHiIlLqQnN"
 # the greatest priority
 MOST = 2**31 - 1
 TAKEN = {"B": ("B", "b", "?"), "I": ("I", "i")}
+# of winners and choices, where C would take -1 for none
+UNSIGNED = {"B": ("B", "?"), "I": ("I",)}
 
 
 def integers(view: memoryview) -> Ints:
@@ -75,10 +77,10 @@ def fitting(code: str, values: Sequence[int]) -> Ints:
     except OverflowError:
         # (one below the greatest, which stands for no winner and no choice)
         most = 2 ** (8 * array(code).itemsize) - 1
-        return array(code, (it if 0 <= it <= most else most - 1 for it in values))
+        return array(code, (it if 0 <= it <= most else most - 1 for it in map(operator.index, values)))
 
 
-def view_of(name: str, value: Buffer, code: str) -> memoryview:
+def view_of(name: str, value: Buffer, code: str, taken: Dict[str, Tuple[str, ...]] = TAKEN) -> memoryview:
     """A view of a buffer's memory, if C takes its items for those of this code; else of a copy with such items. TypeError for what is
     no contiguous buffer of integers."""
     needed = "a contiguous buffer of integers in one dimension is needed, not"
@@ -88,7 +90,7 @@ def view_of(name: str, value: Buffer, code: str) -> memoryview:
         view = memoryview(value)  # type: ignore[arg-type]
     except (TypeError, ValueError, BufferError) as error:
         raise TypeError(f"{name}: {needed} {type(value).__name__}") from error
-    if view.format in TAKEN[code] and view.ndim == 1 and view.c_contiguous:
+    if view.format in taken[code] and view.ndim == 1 and view.c_contiguous:
         return view
     if view.ndim != 1:
         raise TypeError(f"{name}: {needed} one of {view.ndim} dimensions")
@@ -136,9 +138,13 @@ def game_of(owners: Numbers, priorities: Numbers, successors: Iterable[Numbers])
 
 def claims_of(winners: MaybeNumbers, choices: MaybeNumbers) -> Tuple[Ints, Ints]:
     """The arrays of winners and choices. None is no winner, which is taken of what is known alone, or no choice."""
-    # what is no vertex is no choice that C could misread
-    moves = (NO_CHOICE if it is None else it if 0 <= it < NO_CHOICE else NO_CHOICE - 1 for it in choices)
-    return numbers("B", [NO_WINNER if it is None else it for it in winners], faults.BadWinner), array("I", moves)
+    return numbers("B", [NO_WINNER if it is None else it for it in winners], faults.BadWinner), moves_of(choices)
+
+
+def moves_of(choices: MaybeNumbers) -> Ints:
+    """The array of choices. In place of what is no vertex it has one that C refuses."""
+    given = (None if it is None else operator.index(it) for it in choices)
+    return array("I", (NO_CHOICE if it is None else it if 0 <= it < NO_CHOICE else NO_CHOICE - 1 for it in given))
 
 
 def rows_of_matrix(indptr: Union[Buffer, Rows], indices: Optional[Buffer]) -> Tuple[Buffer, Buffer]:
@@ -159,13 +165,17 @@ def game_views(owners: Buffer, priorities: Buffer, indptr: Buffer, indices: Buff
 
 
 def with_greatest(priorities: memoryview) -> memoryview:
-    """Priorities of which the greatest decides, for those of which the least does: p becomes K - p, where K is the least even number that
-    is no less than any of them. (What is no priority stays, and is refused.)"""
+    """Priorities of which the greatest decides, for those of which the least does: in falling order, each gets the least number of its
+    parity that is above those before it. (What is no priority stays, and is refused.)"""
     held = integers(priorities)
-    most = max(held, default=0)
-    if min(held, default=0) < 0 or most > MOST:
+    if min(held, default=0) < 0 or max(held, default=0) > MOST:
         return priorities
-    return memoryview(array("I", (most + most % 2 - it for it in held)))
+    new: Dict[int, int] = {}
+    last = -1
+    for it in sorted(set(held), reverse=True):
+        last += 1 + (last + 1 + it) % 2
+        new[it] = last
+    return memoryview(array("I", map(new.__getitem__, held)))
 
 
 def with_loops(owners: memoryview, priorities: memoryview, indptr: memoryview, indices: memoryview) -> List[memoryview]:
@@ -188,13 +198,13 @@ def with_loops(owners: memoryview, priorities: memoryview, indptr: memoryview, i
 
 
 def claim_views(winners: Buffer, choices: Buffer) -> List[memoryview]:
-    return [view_of("winners", winners, "B"), view_of("choices", choices, "I")]
+    return [view_of("winners", winners, "B", UNSIGNED), view_of("choices", choices, "I", UNSIGNED)]
 
 
 def as_given(fault: faults.UnknownSuccessor, indptr: memoryview, indices: Buffer) -> faults.UnknownSuccessor:
-    """The fault of an unknown successor, with the number that the caller's buffer has."""
-    start, end = integers(indptr)[fault.at : fault.at + 2]
+    """The fault of an unknown successor, with the number that the caller's buffer has, unless another thread has changed it since."""
     row: Sequence[int] = indices if isinstance(indices, (list, tuple)) else integers(memoryview(indices))  # type: ignore[arg-type]
-    row = row[start:end]
+    bounds = integers(indptr)[fault.at : fault.at + 2]
+    row = row[slice(*bounds)] if len(bounds) == 2 else []
     same = [it for it in row if it % 2**32 == fault.to] or [it for it in row if not 0 <= it < 2**32]
-    return faults.UnknownSuccessor(fault.at, same[0])
+    return faults.UnknownSuccessor(fault.at, same[0]) if same else fault

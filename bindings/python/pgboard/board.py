@@ -17,9 +17,9 @@ from itertools import compress
 from typing import TYPE_CHECKING, Iterable, Iterator, List, Mapping, NamedTuple, Optional, Set, Tuple, Type, TypeVar, Union, overload
 
 from . import faults, native, slices
-from .arrays import Buffer, Numbers, Rows, Solution, as_given, fitting, game_of, game_views, rows_of_matrix, view_of
+from .arrays import UNSIGNED, Buffer, Numbers, Rows, Solution, as_given, fitting, game_of, game_views, moves_of, rows_of_matrix, view_of
 from .library import NO_CHOICE, NO_WINNER, Handle, Ints, bound, index_of, own, owned
-from .slices import Cancel, limits_of
+from .slices import Cancel, Slice, limits_of
 from .solving import blank
 
 # in bytes of winners: 1 where a vertex is unsettled, and else 0
@@ -99,12 +99,16 @@ class Board:
         # the threads that have it or wait for it
         self._users: Set[int] = set()
         self._seen, self._state = 0, Solution(array("B", [NO_WINNER]) * size, array("I", [NO_CHOICE]) * size)
-        try:
-            self._handle.open(game)
-        except faults.UnknownSuccessor as fault:
-            raise as_given(fault, view_of("indptr", indptr, "I"), indices) from None
+        # (an exception of a signal's handler may come once the board is open)
         self._close = weakref.finalize(self, self._handle.close)
         self._close.atexit = False
+        try:
+            self._handle.open(game)
+        except BaseException as fault:
+            self._close()
+            if isinstance(fault, faults.UnknownSuccessor):
+                raise as_given(fault, view_of("indptr", indptr, "I"), indices) from None
+            raise
 
     @contextlib.contextmanager
     def _turn(self) -> Iterator[None]:
@@ -140,14 +144,12 @@ class Board:
         if not isinstance(choices, MappingOf):
             raise TypeError(f"choices are a mapping from vertices, not {type(choices).__name__}")
         rows = sorted(choices.items(), key=lambda row: row[0])
-        # what is no vertex is no choice that C could misread
-        moves = (NO_CHOICE if it is None else it if 0 <= it < NO_CHOICE else NO_CHOICE - 1 for _, it in rows)
-        return self._post(player, fitting("I", [v for v, _ in rows]), array("I", moves), worker)
+        return self._post(player, fitting("I", [v for v, _ in rows]), moves_of(it for _, it in rows), worker)
 
     def post_arrays(self, player: int, vertices: Buffer, choices: Buffer, worker: int = 0) -> Posted:
         """The same with two buffers of one length, as of `solve_csr`: vertices that rise, and choices, which are NO_CHOICE at the
         opponent's vertices. Else BadClaimLengths is raised, after BadPlayer."""
-        return self._post(player, own(view_of("vertices", vertices, "I")), own(view_of("choices", choices, "I")), worker)
+        return self._post(player, own(view_of("vertices", vertices, "I")), own(view_of("choices", choices, "I", UNSIGNED)), worker)
 
     def _post(self, player: int, vertices: Ints, choices: Ints, worker: int) -> Posted:
         worker, player = index_of("worker", worker), index_of("player", player)
@@ -219,7 +221,7 @@ class Board:
         search begin anew. Raises Closed if another thread closes the board meanwhile."""
         slices.advance(self._advance, len(self._state.winners), limits_of(timeout, cancel), bound(steps))
 
-    def _advance(self, steps: int) -> Tuple[bool, int]:
+    def _advance(self, steps: int) -> Slice:
         """Takes a slice; the threads that wait for the board go first."""
         for _ in range(TIMES):
             if not self._users:

@@ -5,11 +5,13 @@ from __future__ import annotations
 import ctypes
 import operator
 import os
+import time
 from array import array
 from typing import TYPE_CHECKING, Any, Iterable, List, Optional, Sequence, Tuple
 
 from . import native
 from .faults import FAULTS, GaveUp
+from .slices import Slice
 from .version import __version__
 
 if TYPE_CHECKING:
@@ -121,14 +123,14 @@ class Handle:
         """Fills arrays with the state or the solution."""
         run(f"pgboard_board_{what}", self.memory, native.struct_of(results))
 
-    def advance(self, steps: int) -> Tuple[bool, int]:
-        """Makes a search, or takes up to so many steps of the recursion. Returns whether the board is full, and how many steps were taken."""
-        left = ctypes.c_uint64(steps)
+    def advance(self, steps: int) -> Slice:
+        """Makes a search, or takes up to so many steps of the recursion."""
+        left, begun, is_last = ctypes.c_uint64(steps), time.monotonic(), True
         try:
             run("pgboard_board_advance", self.memory, ctypes.byref(left))
         except GaveUp:
-            return False, steps - left.value
-        return True, steps - left.value
+            is_last = False
+        return Slice(is_last, steps - left.value, time.monotonic() - begun)
 
     def solution_text(self, into: Ints) -> str:
         """The solution's text, which is written to the front of a buffer."""

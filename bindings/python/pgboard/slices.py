@@ -3,7 +3,7 @@
 from __future__ import annotations
 
 import time
-from typing import Callable, NamedTuple, Optional, Tuple
+from typing import Callable, NamedTuple, Optional
 
 from .faults import Cancelled, GaveUp, TimedOut
 
@@ -42,29 +42,39 @@ def limits_of(timeout: Optional[float], cancel: Optional[Cancel]) -> Limits:
     return Limits(timeout, cancel)
 
 
-def advance(take: Callable[[int], Tuple[bool, int]], vertices: int, limits: Limits, steps: Optional[int]) -> None:
-    """Takes slices of a game with so many vertices until nothing is left. `take` makes one of up to so many steps, and returns whether
-    nothing is left, and how many steps it has taken. Raises GaveUp if more than `steps` are needed, and TimedOut or Cancelled before a
-    slice."""
+def check(limits: Limits, begun: float) -> None:
+    """Raises Cancelled or TimedOut where a call that began then has to end."""
+    if limits.cancel is not None and limits.cancel.is_cancelled:
+        raise Cancelled
+    if limits.timeout is not None and time.monotonic() - begun >= limits.timeout:
+        raise TimedOut
+
+
+class Slice(NamedTuple):
+    """What a slice has done: whether nothing is left, how many steps it took, and how many seconds, without a wait for its turn."""
+
+    is_last: bool
+    steps: int
+    seconds: float
+
+
+def advance(take: Callable[[int], Slice], vertices: int, limits: Limits, steps: Optional[int]) -> None:
+    """Takes slices of a game with so many vertices until nothing is left; `take` makes one of up to so many steps. Raises GaveUp if more
+    than `steps` are needed, and TimedOut or Cancelled before a slice."""
     begun = time.monotonic()
     size, left = 1, steps
     while True:
-        before = time.monotonic()
-        if limits.cancel is not None and limits.cancel.is_cancelled:
-            raise Cancelled
-        if limits.timeout is not None and before - begun >= limits.timeout:
-            raise TimedOut
+        check(limits, begun)
         # (one step above the bound says that more are needed)
-        is_done, used = take(size if left is None else min(size, left + 1))
+        taken = take(size if left is None else min(size, left + 1))
         if left is not None:
-            if used > left:
+            if taken.steps > left:
                 raise GaveUp
-            left -= used
-        if is_done:
+            left -= taken.steps
+        if taken.is_last:
             return
         # (a search takes no step)
-        took = time.monotonic() - before
-        if used == size and took < SHORT:
+        if taken.steps == size and taken.seconds < SHORT:
             size = max(1, min(2 * size, MOST // vertices))
-        elif used and took > LONG:
-            size = max(1, int(used * SHORT / took))
+        elif taken.steps and taken.seconds > LONG:
+            size = max(1, int(taken.steps * SHORT / taken.seconds))

@@ -3,6 +3,7 @@
 from __future__ import annotations
 
 import contextlib
+import time
 from array import array
 from typing import Iterator, List, Optional, Sequence
 
@@ -10,7 +11,7 @@ from . import faults
 from .arrays import Solution
 from .library import NO_CHOICE, NO_WINNER, Handle, Ints, run
 from .native import struct_of
-from .slices import Limits, advance
+from .slices import Limits, advance, check
 
 # A game of so many bytes takes no time: it has fewer than 60 vertices.
 SMALL = 512
@@ -34,6 +35,7 @@ def solve_arrays(game: List[Ints], known: Optional[List[Ints]], steps: Optional[
     """A solution of a game, from what is known of it, or by a recursion of so many steps."""
     given = [game] if known is None else [game, known]
     if sum([len(it) * it.itemsize for group in given for it in group]) <= SMALL:
+        check(limits, time.monotonic())
         return at_once(given, steps)
     with closing_board() as board:
         try:

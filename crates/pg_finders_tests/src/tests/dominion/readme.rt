@@ -30,7 +30,7 @@ fn said(alloc: Global, game: &Game, inside: &Mask, target: &Mask) -> Result<Stri
         Ok(checked) => format!(in alloc; "{} rows", checked.rows().len()),
         // i is the index of the first wrong row of the claim
         Err(ClaimFault::Shape(i)) => format!(in alloc; "the row at index {i} is wrong"),
-        // v is the least vertex on a bad closed walk
+        // v is the least vertex whose priority is bad and the greatest on a closed walk
         Err(ClaimFault::Cycle(v)) => format!(in alloc; "a bad closed walk of {v}"),
         Err(ClaimFault::Memory) => Err(AllocError),
     }
