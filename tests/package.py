@@ -190,6 +190,13 @@ class Packaged(unittest.TestCase):
         done("sha256sum", "--check", "--strict", self.dist / "SHA256SUMS", cwd=self.folder / "again")
         listed = lambda it: done("find", ".", "-printf", "%P %m %l\\n", cwd=it).splitlines()
         self.assertEqual(sorted(listed(self.folder / "again")), sorted(listed(self.dist)))
+        # a tree that is changed while rt is at work is refused
+        changed, rt = other / "crates" / PRODUCT[0] / "src" / "lib.rt", shutil.which("rt")
+        edit = f'[ "$1" != lib ] || echo >> "{changed}"'
+        common.write_program(self.folder / "edits" / "rt", f'#!/bin/sh\n"{rt}" "$@"; status=$?\n{edit}\nexit $status\n')
+        self.tree.env["PATH"] = f"{self.folder}/edits:{os.environ['PATH']}"
+        self.addCleanup(self.tree.env.update, PATH=os.environ["PATH"])
+        self.assertEqual(self.tree.package(self.folder / "none", other), (1, f"package: {changed} is not that of the commit\n"))
 
     def test_no_path_of_this_machine_is_in_what_is_made(self):
         local = [str(common.ROOT).encode(), str(common.PROVED).encode(), b"pgboard-package-", str(self.folder).encode()]

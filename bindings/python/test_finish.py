@@ -292,6 +292,13 @@ class Finishing(unittest.TestCase):
             self.assertGreater(order.count("slice"), 10)
             self.assertEqual(pauses, [0, *[3 if is_gone else module.TIMES] * (order.count("slice") - 1), 0])
 
+    def test_a_slice_says_how_long_it_took(self):
+        handle = library.Handle()
+        self.addCleanup(handle.close)
+        handle.open(pgboard.arrays.game_of(*TWO))
+        with mock.patch.object(library.time, "monotonic", side_effect=[5.0, 7.5]):
+            self.assertEqual(handle.advance(9), (True, 0, 2.5))
+
     def test_slices_grow_while_others_wait_for_the_board(self):
         given, board, take = [], self.endless(), library.Handle.advance
 

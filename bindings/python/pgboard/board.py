@@ -99,16 +99,13 @@ class Board:
         # the threads that have it or wait for it
         self._users: Set[int] = set()
         self._seen, self._state = 0, Solution(array("B", [NO_WINNER]) * size, array("I", [NO_CHOICE]) * size)
-        # (an exception of a signal's handler may come once the board is open)
+        # (before it opens, since an exception of a signal's handler may come once it is open)
         self._close = weakref.finalize(self, self._handle.close)
         self._close.atexit = False
         try:
             self._handle.open(game)
-        except BaseException as fault:
-            self._close()
-            if isinstance(fault, faults.UnknownSuccessor):
-                raise as_given(fault, view_of("indptr", indptr, "I"), indices) from None
-            raise
+        except faults.UnknownSuccessor as fault:
+            raise as_given(fault, view_of("indptr", indptr, "I"), indices) from None
 
     @contextlib.contextmanager
     def _turn(self) -> Iterator[None]:
