@@ -64,13 +64,13 @@ MOST_DIGITS = 4000
 ESCAPED = re.compile(rb'\\"(?!\s*;)')
 NAME_OR_COMMENT = re.compile(rb'("[^"]*")|(?:#|//)[^\n]*')
 STATEMENT = re.compile(
-    rb"""\s*(?:(?P<id>[0-9]+)\s+(?P<priority>[0-9]+)\s+0*(?P<owner>[01])(?:\s+(?P<to>[0-9]+(?:\s*,\s*[0-9]+)*))?\s*(?P<name>"[^"]*")?"""
+    rb"""\s*(?:(?P<id>[0-9]+)\s+(?P<priority>[0-9]+)\s+0*(?P<owner>[01])(?:\s+(?P<to>[0-9]+(?:\s*,\s*[0-9]+)*))?(?:\s*(?P<name>"[^"]*"))?"""
     rb"""|start\s*(?P<start>[0-9]+)|(?P<kind>max-?|min-?)?parity\s*(?P<most>[0-9]+))\s*;"""
 )
 COMMENT = re.compile(rb"(?:#|//)[^\n]*")
 CHOICE = re.compile(rb"\s*(?:paritysol\s*[0-9]+|[0-9]+\s+0*[01](?:\s+[0-9]+)?)\s*;")
 PLAYER = re.compile(r"(?i)^\W*(?:player|won by|winner)\W*(0|1|even|odd)\b[^:\n]*:?(.*)$")
-LISTED = re.compile(r"(?i)\s*(?:with strategy:?)?([\s0-9{}\[\](),;>-]*)")
+LISTED = re.compile(r"(?i)(?:\s*with strategy:?)?([\s0-9{}\[\](),;>-]*)")
 
 
 def bytes_of(path):
@@ -230,7 +230,7 @@ def listed(path, text):
 
 def solution_of(path, data):
     """The `paritysol` text of a solution."""
-    begun = re.search(rb"(?m)^paritysol\b", data)
+    begun = re.search(rb"(?m)^[ \t]*paritysol\b", data)
     if begun:
         # (the lines keep their numbers)
         solution = COMMENT.sub(b"", data[begun.start() :])

@@ -57,7 +57,7 @@ class Claim:
         return [self.choice(id)] if self.winner(id) == self.owner(id) else self.successors(id)
 
     def called(self, id):
-        return " ".join(f"{id} {self.game[id][3]}".split())
+        return games.printable(" ".join(f"{id} {self.game[id][3]}".split()))
 
     def closed_walk(self, start):
         """A shortest closed walk of kept edges through a vertex, on which no priority is greater than the vertex's own."""

@@ -36,7 +36,8 @@ fixed point. The words or, and, not are the same as ||, && and !. % begins a
 comment that ends with its line.
 
 Standard error names each action that is no label of the model, since it may be
-a typing error. An action under a negation is not named, and neither is tau.
+a typing error. Neither tau is named nor an action under an odd number of
+negations, where the left side of => counts as one.
 
 example, that two processes are never inside at a time, and that the first one
 who asks doesn't wait for ever:
@@ -51,7 +52,7 @@ something was refused
 
 HEAD = re.compile(r"\s*des\s*\(\s*([0-9]{1,10})\s*,\s*([0-9]{1,10})\s*,\s*([0-9]{1,10})\s*\)\s*")
 # blanks, but no line feed
-LINE = r'[^\S\n]*\([^\S\n]*([0-9]{1,10})[^\S\n]*,[^\S\n]*("[^"\n]*"|[^",\n]*?)[^\S\n]*,[^\S\n]*([0-9]{1,10})[^\S\n]*\)[^\S\n]*'
+LINE = r'[^\S\n]*\([^\S\n]*([0-9]{1,10})[^\S\n]*,(?:[^\S\n]*("[^"\n]*"|[^\s",](?:[^",\n]*[^\s",])?))?[^\S\n]*,[^\S\n]*([0-9]{1,10})[^\S\n]*\)[^\S\n]*'
 TRANSITION = re.compile(LINE)
 TRANSITIONS = re.compile(f"(?m)^{LINE}$")
 # after so many vertices there is another line of progress

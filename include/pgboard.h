@@ -1,6 +1,6 @@
 /* pgboard solves max-parity games and checks solutions, for programs with games in memory.
  *
- * Each call returns a number: 0, or one of those below. If it is 0, both fields of `report` are 0. Else `report` says
+ * Each call with a `report` returns a number: 0, or one of those below. If it is 0, both fields of `report` are 0. Else `report` says
  * where the fault is, and the call writes nothing but `report`; pgboard_board_advance may have written more. No pointer may be
  * null, even with length 0. No array or struct that a call writes may overlap another.
  *
@@ -294,7 +294,8 @@ uint32_t pgboard_board_post(struct pgboard_board *board, const struct pgboard_cl
                             struct pgboard_report *report);
 
 /* Writes the winner and the choice of each settled vertex, and PGBOARD_NO_WINNER and PGBOARD_NO_CHOICE of the others. The
- * unsettled part is a game of its own: each of its vertices has a successor in it. */
+ * unsettled part is a game of its own: each of its vertices has a successor in it. The faults are PGBOARD_BOARD_CLOSED, PGBOARD_SIZE
+ * and PGBOARD_RESULTS. */
 PGBOARD_CALL
 uint32_t pgboard_board_state(struct pgboard_board *board, struct pgboard_results *results, struct pgboard_report *report);
 
@@ -329,7 +330,8 @@ uint32_t pgboard_board_finish_within(struct pgboard_board *board, uint64_t steps
 PGBOARD_CALL
 uint32_t pgboard_board_advance(struct pgboard_board *board, uint64_t *steps, struct pgboard_report *report);
 
-/* Writes the solution of a full board, as pgboard_solve does. Of another the fault is PGBOARD_BOARD_UNSETTLED. */
+/* Writes the solution of a full board, as pgboard_solve does. The faults are PGBOARD_BOARD_CLOSED, PGBOARD_SIZE and PGBOARD_RESULTS;
+ * then PGBOARD_BOARD_UNSETTLED of a board that is not full, and PGBOARD_MEMORY. */
 PGBOARD_CALL
 uint32_t pgboard_board_solution(struct pgboard_board *board, struct pgboard_results *results, struct pgboard_report *report);
 

@@ -311,7 +311,9 @@ class board {
 
     std::uint64_t settled() const { return pgboard_board_settled(&held); }
     std::uint64_t entries() const { return pgboard_board_entries(&held); }
-    pgboard::journal journal() const { return pgboard::journal(*this); }
+    // (it reads this board, at its place)
+    pgboard::journal journal() const & { return pgboard::journal(*this); }
+    pgboard::journal journal() const && = delete;
 
     // The entry with this number, from 0.
     pgboard::entry entry(std::uint64_t number) const

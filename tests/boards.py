@@ -99,14 +99,14 @@ class Referee(Boards):
         return f"sh -c 'until grep -q \"solver {worker} \" {self.folder / 'said'}; do sleep 0.05; done; {commands}'"
 
     def referee(self, game, *solvers, more=(), **how):
-        """The lines of each solver as (worker, command, how it ended, what was done), and how many vertices were left to the recursion.
+        """The lines of each solver as (worker, command, how it ended, what was done), and how many vertices were left to the board.
         What is printed has to be a solution."""
         words = [it for solver in solvers for it in ("--solver", solver)]
         status, out, err = self.run_script(*words, *more, self.file("game.pg", plain.written_game(game)), **how)
         self.assertEqual(status, 0, err)
         self.solves(game, out)
         *lines, last = err.splitlines()
-        left = re.fullmatch(rf"referee: the recursion settled (\d+) of {len(game)}", last)
+        left = re.fullmatch(rf"referee: the board itself settled (\d+) of {len(game)}", last)
         self.assertTrue(left, err)
         self.assertEqual(len(lines), len(solvers), err)
         return [SAID.fullmatch(line).groups() for line in lines], int(left[1])
@@ -275,7 +275,7 @@ class Referee(Boards):
             chance = random.Random(seed)
             game = random_games.random_game(chance)
             status, out, err = self.run_script("-", given=random_games.random_game_text(chance, game))
-            self.assertEqual((status, err), (0, f"referee: the recursion settled {len(game)} of {len(game)}\n"))
+            self.assertEqual((status, err), (0, f"referee: the board itself settled {len(game)} of {len(game)}\n"))
             self.solves(game, out)
 
     @unittest.skipUnless(random_games.COMPARATOR.exists() or common.IS_GATE, "bench.py has not built the comparator")
@@ -291,7 +291,7 @@ class Referee(Boards):
         self.referee({**GAME, 20: (1, 1, {20})}, *solvers, more=["--picture", path])
         text = path.read_text(encoding="utf-8")
         counts = {name: int(count) for count, name in re.findall(r'<text x="\d+" y="\d+">(\d+) (.*?)</text>', text)}
-        names = ["the recursion", *(it.replace("&", "&amp;").replace("<", "&lt;") for it in solvers)]
+        names = ["the board itself", *(it.replace("&", "&amp;").replace("<", "&lt;") for it in solvers)]
         self.assertEqual(counts, dict(zip(names, [1, 1, 2, 0])))
         # four vertices are 340 units high, and each line goes up by as many as its worker settled, and to the end
         for worker, count in enumerate([1, 1, 2, 0]):
@@ -324,8 +324,12 @@ class Referee(Boards):
         status, out, err = self.run_script(str(good), PGBOARD_LIBRARY="/nowhere.so")
         self.assertEqual((status, out), (2, b""))
         self.assertRegex(err, "^referee: pgboard: its library can't be loaded .*\n$")
+        # (a solution comes before a picture that can't be written)
+        status, out, err = self.run_script("--picture", "no/run.svg", str(good))
+        self.assertEqual((status, err.splitlines()[-1]), (2, "referee: no/run.svg: No such file or directory"))
+        self.assertEqual(out, self.run_script(str(good))[1])
         status, out, err = self.run_script("--solver", "/nowhere {game}", str(good))
-        said = "referee: solver 1 (/nowhere {game}): /nowhere: No such file or directory\nreferee: the recursion settled 3 of 3\n"
+        said = "referee: solver 1 (/nowhere {game}): /nowhere: No such file or directory\nreferee: the board itself settled 3 of 3\n"
         self.assertEqual((status, err), (0, said))
 
     def test_help_fits_and_names_commands_that_need_no_shell(self):
@@ -353,14 +357,14 @@ def ring(chance, size):
 
 @common.needs("g++")
 class Promote(Boards):
-    WORKERS = ["the recursion", "promotion", "promotion in a part", "small dominions", "lies"]
+    WORKERS = ["the board itself", "promotion", "promotion in a part", "small dominions", "lies"]
 
     @classmethod
     def setUpClass(cls):
         super().setUpClass()
         cls.programs = {}
         for compiler, flags in (("g++", ["-O2"]), ("g++", ["-O1", *embed.SANITIZERS]), ("g++", ["-O1", "-g", "-fsanitize=thread"]), ("clang++", ["-O2"])):
-            if shutil.which(compiler):
+            if compiler in common.installed("g++", "clang++"):
                 program = cls.folder / f"promote{len(cls.programs)}"
                 words = [compiler, "-std=c++17", *embed.WARNINGS, *flags, BOARD / "promote.cpp", *embed.ARCHIVES, "-lpthread", "-o", program]
                 status, _, err = embed.run(words)
@@ -378,7 +382,7 @@ class Promote(Boards):
             settled, answers = re.fullmatch(rf"worker {number} \({name}\): settled (\d+)((?:; .*)?)", line).groups()
             workers.append((int(settled), answers.split("; ")[1:]))
         self.assertEqual(sum(settled for settled, _ in workers), len(game), lines)
-        # promotion ends: nothing is left to the recursion, and of its posts none is refused but stale ones
+        # promotion ends: nothing is left to the board itself, and of its posts none is refused but stale ones
         self.assertEqual(workers[0], (0, []), lines)
         stale = faults.TEXT_OF["POST_STALE"]
         for _, answers in workers[1:3]:
@@ -438,6 +442,10 @@ class Promote(Boards):
         program = self.programs["g++ -O2"]
         self.assertEqual(embed.run([program]), (2, "", "promote: usage: promote GAME\n"))
         self.assertEqual(embed.run([program, "/nowhere"]), (2, "", "promote: /nowhere cannot be read\n"))
+        status, out, err = embed.run([program, self.folder])
+        self.assertEqual((status, out, err.count("\n"), err[:9]), (2, "", 1, "promote: "))
+        full = common.run(["sh", "-c", 'exec "$0" "$1" >/dev/full', program, common.ROOT / "examples" / "requests.pg"])
+        self.assertEqual(full, (2, b"", b"promote: the solution cannot be written\n"))
         said = faults.TEXT_OF["GAME_LEXICAL"]
         self.assertEqual(embed.run([program, self.file("bad.pg", "0 0 0 ?;")]), (2, "", f"promote: {said} (6)\n"))
 

@@ -137,6 +137,13 @@ def needs(*tools):
     return unittest.skipIf(lacking, f"not installed: {' '.join(lacking)}")
 
 
+def installed(*tools):
+    """Those of some tools that are installed; in the gate all of them."""
+    found = [it for it in tools if IS_GATE or shutil.which(it)]
+    assert found, f"none is installed: {' '.join(tools)}"
+    return found
+
+
 def kit():
     """The kit that is installed, without the letter of its release: kits of one number and one logic prove the same."""
     return re.sub(r"^(rattle-kit-\d+)[a-z]* ", r"\1 ", run(["rt", "version"])[1].decode().strip())

@@ -281,7 +281,7 @@ class Embed(unittest.TestCase):
         source = self.folder / "header.c"
         source.write_text('#include "pgboard.h"\nint main(void) { return pgboard_strerror(0) == 0; }\n', encoding="ascii")
         flags = {"-xc": ["c89", "c99", "c11", "c17"], "-xc++": ["c++98", "c++11", "c++17", "c++20"]}
-        for compiler in filter(shutil.which, ("gcc", "clang")):
+        for compiler in common.installed("gcc", "clang"):
             for language, standards in flags.items():
                 for standard in standards:
                     with self.subTest(compiler, standard=standard):
@@ -340,7 +340,7 @@ class Embed(unittest.TestCase):
         return program
 
     def test_the_header_for_cpp(self):
-        for compiler, standard in itertools.product(filter(shutil.which, ("g++", "clang++")), ("c++17", "c++20")):
+        for compiler, standard in itertools.product(common.installed("g++", "clang++"), ("c++17", "c++20")):
             with self.subTest(compiler, standard=standard):
                 test = self.folder / f"{compiler}-{standard}"
                 flags = [f"-std={standard}", *WARNINGS, *REFUSING, *(SANITIZERS if compiler == "g++" else [])]
@@ -349,7 +349,7 @@ class Embed(unittest.TestCase):
                 self.judge_games(test)
 
     def test_the_header_for_cpp_says_that_it_needs_exceptions(self):
-        for compiler, header in itertools.product(filter(shutil.which, ("g++", "clang++")), ("pgboard.h", "pgboard.hpp")):
+        for compiler, header in itertools.product(common.installed("g++", "clang++"), ("pgboard.h", "pgboard.hpp")):
             source = self.folder / "without_exceptions.cpp"
             source.write_text(f'#include "{header}"\n', encoding="ascii")
             status, _, err = run([compiler, "-std=c++17", *WARNINGS, "-fno-exceptions", "-fsyntax-only", source])

@@ -256,6 +256,32 @@ class Shells(unittest.TestCase):
             for option in launchers_flags():
                 self.assertEqual(option in re.findall(r"(?m)^--[a-z]+", out.decode()), offers, out)
 
+    def check_commands(self, said):
+        """That of each command the flags are offered that its help has, and no other."""
+        for name in Help("").commands:
+            if name != "help":
+                with self.subTest(name):
+                    status, out, err = common.run(said(name), cwd=self.folder, env={**os.environ, "HOME": str(self.folder)})
+                    self.assertEqual((status, err), (0, b""))
+                    flags = {f"--{flag}" for flag, *_ in Help(name).flags}
+                    self.assertEqual(set(re.findall(r"(?m)^(?:\(- \*\))?(--[a-z]+)", out.decode())), {"--help", *flags})
+
+    @common.needs("fish")
+    def test_the_commands_in_fish(self):
+        self.check_commands(lambda name: ["fish", "--no-config", "-c", f"source '{common.ROOT / FISH}'; complete -C 'pgboard {name} --'"])
+
+    @common.needs("zsh")
+    def test_the_commands_in_zsh(self):
+        # (it is called with all words, and then with the command's)
+        stub = "_arguments() { [[ $1 = -C ]] || print -l -- $@; state=words; words=(NAME --); return 1 }"
+        text = f"{stub}; run() {{ source '{common.ROOT / ZSH}' }}; words=(pgboard NAME --); run; true"
+        self.check_commands(lambda name: ["zsh", "-f", "-c", text.replace("NAME", name)])
+        self.assertEqual(common.text_of(ZSH).splitlines()[0], "#compdef pgboard")
+
+    def test_the_command_in_bash(self):
+        got = common.run(["bash", "-c", 'source "$0"; complete -p pgboard', common.ROOT / BASH])
+        self.assertEqual(got, (0, b"complete -o bashdefault -o default -F _pgboard pgboard\n", b""))
+
     @common.needs("fish")
     def test_fish(self):
         self.check("fish", "--no-config", "-c", f"source '{common.ROOT / FISH}'; complete -C './pgboard --'")

@@ -52,6 +52,8 @@ class Judges(unittest.TestCase):
         board.add((1, 0, 1, [(0, 0), (1, 0), (2, 1)]))
         rows = [(2, 1), (3, 2), (4, 3)]
         self.assertIsNone(board.entry_fault(0, rows, (2, 0, 2, [(3, 2), (4, 3), (5, 4), (6, 5)])))
+        again = (2, 0, 2, [(3, 2), (4, 3), (1, 0), (5, 4), (6, 5)])
+        self.assertEqual(board.entry_fault(0, rows, again), "it is not the attractor")
         self.assertEqual(board.entry_fault(0, rows, (2, 0, 3, [(2, 1), (3, 2), (4, 3), (5, 4), (6, 5)])), "it does not begin with the rest")
 
     def test_a_claim(self):

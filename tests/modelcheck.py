@@ -14,6 +14,7 @@ import shlex
 import sys
 import unittest
 import unittest.mock
+import xml.etree.ElementTree
 from typing import Callable
 
 import common
@@ -533,10 +534,27 @@ class ModelCheck(scripts.Use, unittest.TestCase):
         self.assertEqual(lines[1:], [""])
         self.assertRegex(shown, r"(?s)\x1b\[Kmodelcheck: [\d,]+ vertices\r.*\x1b\[Kmodelcheck: solving\r")
 
+    def test_a_picture_spells_what_does_not_print(self):
+        self.model.write_bytes(b'des (0, 1, 1)\n(0, "a\x01b", 0)\n')
+        picture = self.folder / "picture.svg"
+        self.assertEqual(self.call(self.model, '<"a\x01b"> true', "--picture", picture)[0], 0)
+        self.assertIn(r"a\x01b", "".join(xml.etree.ElementTree.parse(picture).getroot().itertext()))
+
+    def test_many_blanks_take_little_time(self):
+        def refuse(count):
+            self.model.write_text(f"des (0, 1, 1)\n(0,{' ' * count}x\n", encoding="ascii")
+            with self.assertRaisesRegex(self.script.Refused, ":2: not of the form"):
+                self.call(self.model, "true")
+
+        self.check_growth(refuse, 1_000)
+
     def test_what_is_too_large(self):
         status, out, err = self.run_script(self.model, "(" * 5000 + "true" + ")" * 5000)
         self.assertEqual((status, out), (2, ""))
-        self.assertIn("nested too deeply", err)
+        self.assertRegex(err, r"\Amodelcheck: formula:1:[0-9]{3,4}: nested too deeply\n\Z")
+        # (a chain is no nesting: a test has a tenth of the script's frames)
+        for operator in ("&&", "||"):
+            self.assertEqual(len(self.script.Formula("formula", f" {operator} ".join(["true"] * 1500)).parts), 2999)
         self.model.write_text(Model(0, 9, [(state, "a", state + 1) for state in range(8)]).text, encoding="ascii")
         self.check(self.model, "nu X. [a] X", True)
         with unittest.mock.patch.object(self.script.games, "MOST_VERTICES", 17):

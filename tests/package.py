@@ -46,6 +46,7 @@ LIBRARIES = "usr/lib/x86_64-linux-gnu"
 CMAKE = """cmake_minimum_required(VERSION 3.13)
 project(embed C)
 find_package(pgboard {version} REQUIRED)
+find_package(pgboard {version} REQUIRED)
 foreach(target pgboard pgboard_static)
   add_executable(by_${{target}} embed.c)
   target_link_libraries(by_${{target}} pgboard::${{target}})
@@ -162,7 +163,7 @@ class Packaged(unittest.TestCase):
         copy = self.folder / "others"
         common.copy_crates(copy)
         changed = [next((copy / "crates" / it / "src").glob("*.rt")) for it in PRODUCT]
-        changed += [next((copy / "crates" / it / "specs").rglob("*.antt")) for it in PRODUCT]
+        changed += [next((copy / "crates" / it / folder).rglob("*.antt")) for it in PRODUCT for folder in ("specs", "proofs")]
         for at, path in enumerate([*changed, copy / "HANDLES", copy / "crates.txt"]):
             kept = path.read_bytes()
             path.write_bytes(kept + b"\n") if at else path.unlink()
@@ -190,12 +191,19 @@ class Packaged(unittest.TestCase):
         done("sha256sum", "--check", "--strict", self.dist / "SHA256SUMS", cwd=self.folder / "again")
         listed = lambda it: done("find", ".", "-printf", "%P %m %l\\n", cwd=it).splitlines()
         self.assertEqual(sorted(listed(self.folder / "again")), sorted(listed(self.dist)))
-        # a tree that is changed while rt is at work is refused
-        changed, rt = other / "crates" / PRODUCT[0] / "src" / "lib.rt", shutil.which("rt")
-        edit = f'[ "$1" != lib ] || echo >> "{changed}"'
+        # a program that is not what rt has linked is refused
+        program, rt = other / CRATE / "out" / "pgboard_program", shutil.which("rt")
+        edit = f'[ "$1" != run ] || echo >> "{program}"'
         common.write_program(self.folder / "edits" / "rt", f'#!/bin/sh\n"{rt}" "$@"; status=$?\n{edit}\nexit $status\n')
         self.tree.env["PATH"] = f"{self.folder}/edits:{os.environ['PATH']}"
         self.addCleanup(self.tree.env.update, PATH=os.environ["PATH"])
+        status, said = self.tree.package(self.folder / "none", other)
+        self.assertEqual((status, said.count("\n")), (1, 1), said)
+        self.assertRegex(said, r"\Apackage: .*pgboard_program\.o is not the object of the proved program\n\Z")
+        # a tree that is changed while rt is at work is refused
+        changed = other / "crates" / PRODUCT[0] / "src" / "lib.rt"
+        edit = f'[ "$1" != lib ] || echo >> "{changed}"'
+        common.write_program(self.folder / "edits" / "rt", f'#!/bin/sh\n"{rt}" "$@"; status=$?\n{edit}\nexit $status\n')
         self.assertEqual(self.tree.package(self.folder / "none", other), (1, f"package: {changed} is not that of the commit\n"))
 
     def test_no_path_of_this_machine_is_in_what_is_made(self):
@@ -245,6 +253,24 @@ class Packaged(unittest.TestCase):
         status, said = tree.package(self.folder / "none", copy)
         self.assertEqual((status, (self.folder / "none").exists()), (1, False), said)
         self.assertRegex(said, r"\Apackage: not proved: pgboard_program\n")
+
+    def test_without_words_it_has_rt_prove_a_copy_and_replaces_dist_at_its_end(self):
+        top, edits = self.folder / "top", self.folder / "no_proofs"
+        (top / "dist" / "old").mkdir(parents=True)
+        self.tree.git("archive", "--output", self.folder / "top.tar", "HEAD")
+        done("tar", "-xf", self.folder / "top.tar", "-C", top)
+        # (what rt would prove again is that of the gate)
+        takes = f'case $1 in run | lib) exec cp -r "{common.PROVED}/crates/${{PWD##*/}}/out" . ;; *) exec "{shutil.which("rt")}" "$@" ;; esac'
+        common.write_program(edits / "rt", f"#!/bin/sh\n{takes}\n")
+        env = {**self.tree.env, "GIT_WORK_TREE": str(top), "PATH": f"{edits}:{os.environ['PATH']}"}
+        common.write_program(edits / "dpkg-buildpackage", "#!/bin/sh\nexit 1\n")
+        status, out, err = common.run([top / "package"], timeout=3000, env=env)
+        self.assertEqual((status, os.listdir(top / "dist")), (1, ["old"]), out + err)
+        (edits / "dpkg-buildpackage").unlink()
+        status, out, err = common.run([top / "package"], timeout=3000, env=env)
+        self.assertEqual((status, err), (0, b""), out + err)
+        self.assertEqual(sorted(os.listdir(top / "dist")), sorted(os.listdir(self.dist)))
+        self.assertIn("\nproofs made by rt in this build\n", (top / "dist" / "PROVENANCE").read_text(encoding="ascii"))
 
     def test_a_folder_that_is_there_is_left(self):
         self.assertEqual(self.tree.package(self.dist), (1, f"package: {self.dist} is there already\n"))
@@ -417,6 +443,12 @@ class Packaged(unittest.TestCase):
                 self.assertEqual(field("Architecture"), "all" if name.startswith("python") else "amd64")
                 self.assertEqual([field(it) for it in ("Maintainer", "Homepage")], ["The pgboard authors <pgboard@example.org>", "https://pgboard.example.org"])
                 self.assertEqual([field(it) for it in ("Pre-Depends", "Recommends", "Conflicts", "Replaces")], [""] * 4)
+
+    def test_the_pages_and_the_examples_are_in_the_debian_package(self):
+        for name in self.tree.git("ls-files", "README.md", "docs/*.md", "docs/pictures", "examples").split():
+            path = self.root / "usr/share/doc/pgboard" / name
+            data = path.read_bytes() if path.exists() else gzip.decompress(path.with_name(f"{path.name}.gz").read_bytes())
+            self.assertEqual(data, (common.ROOT / name).read_bytes(), name)
 
     def paths(self, package):
         """The files of a Debian package, but for those of its own folder of documents."""

@@ -68,7 +68,7 @@ class Board:
             return "it is of the other player"
         if given[:claimed] != rest:
             return "it does not begin with the rest"
-        if len(set(vertices)) < len(vertices) or won | set(vertices) != plain.attracted(self.game, won | {v for v, _ in rest}, player):
+        if len(set(vertices)) < len(vertices) or won & set(vertices) or won | set(vertices) != plain.attracted(self.game, won | {v for v, _ in rest}, player):
             return "it is not the attractor"
         for at, (v, choice) in enumerate(given[claimed:], claimed):
             _, owner, successors = self.game[v]

@@ -157,7 +157,7 @@ class Checks:
 
     def differs(self, words, given, wanted):
         """What differs from the wanted answer of the program and of the comparator."""
-        for path in [common.PROGRAM, *[COMPARATOR] * COMPARATOR.exists()]:
+        for path in [common.PROGRAM, *[COMPARATOR] * (common.IS_GATE or COMPARATOR.exists())]:
             got = self.run(words, given, path)
             if got != wanted:
                 return f"{path.name} {' '.join(words)}: {got}, and not {wanted}"

@@ -315,13 +315,15 @@ FEWER = [
 @unittest.skipUnless(common.PROGRAM == common.BUILT, "the program is not that of `rt ci`, which builds the unit tests")
 class UnitTests(Refusing):
     def test_each_allocation(self):
-        programs = sorted(common.ROOT.glob("crates/*/out/*_tests"))
-        self.assertTrue(programs)
-        for path in programs:
+        listed = []
+        for path in sorted(common.ROOT.glob("crates/*/out/*_tests")):
             _, out, err = common.run([path, "--list"])
-            for test in sorted(set(re.findall(r"\b(?:\w+::)*memory::\w+", (out + err).decode()))):
-                with self.subTest(f"{path.name} {test}"):
-                    self.judge(path, test)
+            listed += [(path, it) for it in sorted(set(re.findall(r"\b(?:\w+::)*memory::\w+", (out + err).decode())))]
+        written = [it.read_text(encoding="utf-8").count("#[test]") for it in common.ROOT.glob("crates/*_tests/src/tests/*/memory.rt")]
+        self.assertEqual(len(listed), sum(written))
+        for path, test in listed:
+            with self.subTest(f"{path.name} {test}"):
+                self.judge(path, test)
 
     def judge(self, path, test):
         whole, (count, *_) = self.counted([test], path=path)

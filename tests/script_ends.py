@@ -105,11 +105,11 @@ class Ends(unittest.TestCase):
             for named, said in (("/o'brien/pgboard", "PGBOARD: No closing quotation: /o'brien/pgboard"), (" ", "PGBOARD has no word")):
                 self.assertEqual(self.run_script(script, words, PGBOARD=named), (2, "", f"{script}: {said}\n"))
 
-    def start(self, command, closes="", **how):
+    def start(self, command, closes="", waits="exec sleep 99", **how):
         """Starts a command that makes temporary files in a folder of its own, and runs a program that waits; and its number."""
         temporary, number = self.folder / "temporary", self.folder / "number"
         temporary.mkdir(exist_ok=True)
-        program = self.program(f"echo $$ > {number}.new; mv {number}.new {number}; exec sleep 99 {closes}")
+        program = self.program(f"echo $$ > {number}.new; mv {number}.new {number}; {waits} {closes}")
         env = {**os.environ, "PGBOARD": program, "TMPDIR": str(temporary)}
         process = subprocess.Popen(command, stdout=subprocess.PIPE, stderr=subprocess.PIPE, env=env, **how)
         self.addCleanup(process.kill)
@@ -139,6 +139,28 @@ class Ends(unittest.TestCase):
             time.sleep(0.3)
             process.send_signal(number)
             self.check_ended(process, number, program)
+
+    def test_the_program_may_end_what_it_has_started(self):
+        """It gets SIGTERM first, and SIGKILL where it has not ended some seconds later."""
+        ended = self.folder / "ended"
+        for waits, has_ended in ((f"trap 'sleep 0.5; touch {ended}; exit 1' TERM; sleep 99 & wait", True), ("trap '' TERM; sleep 99 & wait", False)):
+            for number in SIGNALS if has_ended else SIGNALS[:1]:
+                process, program = self.start(self.command("winner", ANSWERS["winner"][0][0]), waits=waits)
+                process.send_signal(number)
+                self.check_ended(process, number, program)
+                self.assertEqual(ended.exists(), has_ended)
+                ended.unlink(missing_ok=True)
+
+    def test_refused_memory_is_no_answer(self):
+        text = "from lib import games\ndef main(words): raise MemoryError\ngames.run('winner', main)\n"
+        got = common.run([sys.executable, "-B", "-c", text], env={**os.environ, "PYTHONPATH": str(EXAMPLES)})
+        self.assertEqual(got, (2, b"", b"winner: memory was refused\n"))
+
+    def test_where_no_temporary_file_can_be_written(self):
+        command = ["bash", "-c", 'ulimit -f 0; exec "$@"', "", *self.command("winner", ANSWERS["winner"][0][0])]
+        status, out, err = common.run(command, env={**os.environ, "PGBOARD": shlex.quote(str(common.PROGRAM))}, cwd=self.folder)
+        self.assertEqual((status, out), (2, b""))
+        self.assertRegex(err, rb"\Awinner: No usable temporary directory found in \[.*\]\n\Z")
 
     def test_a_signal_while_a_picture_is_made(self):
         number = self.folder / "number"

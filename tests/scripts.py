@@ -10,6 +10,7 @@ import re
 import shlex
 import signal
 import sys
+import time
 
 import common
 
@@ -83,6 +84,15 @@ class Use:
         env = {**os.environ, "PGBOARD": shlex.quote(str(common.PROGRAM)), **env}
         status, out, err = common.run(command, given, timeout=600, cwd=common.ROOT, env=env)
         return status, out.decode(errors="replace"), err.decode()
+
+    def check_growth(self, call, size):
+        """That a call takes about four times as long on what is four times as large."""
+        took = []
+        for count in (size, 4 * size):
+            begun = time.process_time()
+            call(count)
+            took.append(time.process_time() - begun)
+        self.assertLess(took[1], 10 * took[0] + 0.2)
 
     def check_picture(self, words, *lines):
         """That the script draws these lines, and that Graphviz takes them."""

@@ -548,15 +548,25 @@ class Layers(unittest.TestCase):
     def test_no_ring_of_modules(self):
         """The modules of a crate import one another in an order, so each can be read after those that it names."""
         for crate in sorted(it.name for it in (common.ROOT / "crates").iterdir()):
-            sources = {path.partition("/src/")[2][:-3]: read(path) for path in files(f"{crate}/src/**/*.rt")}
-            imports = {}
-            for module, code in sources.items():
-                paths = [it.split("::") for it in re.findall(r"\bcrate::(\w+(?:::\w+)*)", re.sub(r"//.*", "", code))]
-                paths += [[module, *it.split("::")] for it in re.findall(r"(?m)^(?:pub )?use (\w+(?:::\w+)*)", code)]
-                named = {max((it for n in range(len(path)) if (it := "/".join(path[: n + 1])) in sources), default=module) for path in paths}
-                imports[module] = named - {module}
             with self.subTest(crate):
-                graphlib.TopologicalSorter(imports).prepare()
+                graphlib.TopologicalSorter(self.imports_of({path.partition("/src/")[2][:-3]: read(path) for path in files(f"{crate}/src/**/*.rt")})).prepare()
+
+    def imports_of(self, sources):
+        """The modules that each module names."""
+        imports = {}
+        for module, code in sources.items():
+            code = re.sub(r"//.*", "", code)
+            paths = [it.split("::") for it in re.findall(r"\bcrate::(\w+(?:::\w+)*)", code)]
+            paths += [[*module.split("/")[:-1], *it.split("::")] for it in re.findall(r"\bsuper::(\w+(?:::\w+)*)", code)]
+            paths += [[module, *it.split("::")] for it in re.findall(r"(?m)^(?:pub )?use (\w+(?:::\w+)*)", code)]
+            named = {max((it for n in range(len(path)) if (it := "/".join(path[: n + 1])) in sources), default=module) for path in paths}
+            imports[module] = named - {module}
+        return imports
+
+    def test_a_ring_is_found(self):
+        for code in ("use super::y;", "use crate::a::y;"):
+            with self.subTest(code), self.assertRaises(graphlib.CycleError):
+                graphlib.TopologicalSorter(self.imports_of({"a": "use crate::a::b::x;", "a/b": code})).prepare()
 
     def test_the_picture(self):
         """Each box of the picture is a function of the file that it names, and the drawing has its boxes and arrows."""

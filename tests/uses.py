@@ -104,14 +104,22 @@ class Convert(Use, unittest.TestCase):
                     self.assertEqual(self.run_script(*flags, self.file("given", text)), (0, wanted, ""))
 
     def test_many_compressed_parts_take_little_time(self):
-        """Four times as many take about four times as long."""
-        took = []
-        for count in (1_000, 4_000):
-            parts = [gzip.compress(f'{v} 0 0 {v} "{random.Random(v).randbytes(300).hex()}";\n'.encode(), 1) for v in range(count)]
-            path, begun = self.file("parts", b"".join(parts)), time.process_time()
-            self.assertEqual(self.script.bytes_of(path).count(b";"), count)
-            took.append(time.process_time() - begun)
-        self.assertLess(took[1], 10 * took[0] + 0.2)
+        parts = [gzip.compress(f'{v} 0 0 {v} "{random.Random(v).randbytes(300).hex()}";\n'.encode(), 1) for v in range(4_000)]
+        paths = {count: self.file(f"{count} parts", b"".join(parts[:count])) for count in (1_000, 4_000)}
+        self.check_growth(lambda count: self.assertEqual(self.script.bytes_of(paths[count]).count(b";"), count), 1_000)
+
+    def test_many_blanks_take_little_time(self):
+        for flags, text, said in (
+            ([], "0 0 0 0{}x", "no semicolon"),
+            (["--solution"], "Player 0 wins:\n{}x\n", "there is no solution in it"),
+        ):
+            with self.subTest(said):
+
+                def refuse(count, flags=flags, text=text, said=said):
+                    with self.assertRaisesRegex(self.script.Refused, said):
+                        called(self.script, flags, text.replace("{}", ("\n" if "semi" in said else " ") * count).encode())
+
+                self.check_growth(refuse, 20_000)
 
     def test_random_games_keep_their_winners(self):
         ways = itertools.product((0, 1), (0, 1), (0, 1), ("flag", "header", "both"))
@@ -275,6 +283,12 @@ class Draw(Use, unittest.TestCase):
         for (at, one), (other, two) in itertools.combinations(ends, 2):
             self.assertTrue(at != other or math.dist(one, two) > 15, (at, one, two))
 
+    def test_a_picture_has_at_most_200_vertices(self):
+        game = lambda count: self.file(f"{count}.pg", "".join(f"{v} 0 0 {v};\n" for v in range(count)))
+        self.assertEqual(self.call(game(200))[0], 0)
+        with self.assertRaisesRegex(self.script.Refused, "201 vertices are too many"):
+            self.call(game(201))
+
     def test_other_kinds_of_pictures(self):
         for flag, begins in (("--png", "PNG"), ("--pdf", "%PDF-")):
             with self.subTest(flag):
@@ -383,6 +397,18 @@ class Explain(Use, unittest.TestCase):
         status, out, err = self.run_script(self.file("game.pg", game), self.file("game.sol", solution))
         self.assertEqual((status, err, len(out.splitlines())), (1, "", count + 2))
         self.assertIn("\n  7: priority 113, Odd may move to 8   <- the greatest, and Odd's\n", out)
+
+    def test_a_picture_leaves_out_neighbours_above_200_vertices(self):
+        loops = range(1, 301)
+        game = self.file("game.pg", f"0 1 0 0,{','.join(map(str, loops))};\n" + "".join(f"{v} 0 0 {v};\n" for v in loops))
+        solution, picture = self.file("game.sol", "".join(f"{v} 0 {v};\n" for v in (0, *loops))), self.folder / "picture.dot"
+        self.assertEqual(self.call(game, solution, "--picture", picture)[0], 1)
+        vertices, edges = graph_of(picture.read_text(encoding="utf-8"))
+        self.assertEqual((len(vertices), "red" in edges["0", "0"]), (200, True))
+
+    def test_names_are_shown_without_what_a_terminal_would_obey(self):
+        status, out = self.call(self.file("game.pg", '0 1 0 0 "a\x1b[2Jb";'), self.file("game.sol", "0 0 0;"))
+        self.assertEqual((status, "\x1b" in out, r'0 "a\x1b[2Jb": priority 1' in out), (1, False, True), out)
 
     def test_a_line_is_named_by_where_it_begins(self):
         status, out = self.call(self.file("game.pg", "0 0 0 1; 1 1 1 1;"), self.file("game.sol", "\n0 0\n1;\n1\n1\n1;"))
@@ -581,7 +607,7 @@ class Refused(unittest.TestCase):
                 self.assertEqual((status, out), (2, b""))
                 self.assertTrue(not usage or usage[0].startswith("usage: "), err)
                 place = place.replace("FILE", file).replace("TRACE", named["TRACE"])
-                self.assertRegex(line, rf"^{script}(\.py)?: {re.escape(place)}")
+                self.assertRegex(line, rf"^{script}(\.py)?: {re.escape(place)}(?![0-9])")
                 # (a row has the whole of what a parser expected)
                 self.assertTrue(line.endswith(said) if said.startswith("expected ") else said in line, line)
 

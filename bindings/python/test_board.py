@@ -13,6 +13,7 @@ import os
 import pathlib
 import pickle
 import random
+import re
 import subprocess
 import sys
 import threading
@@ -359,7 +360,7 @@ class Boards(unittest.TestCase):
     def test_a_claim_of_nothing_is_refused_at_its_first_row(self):
         board = pgboard.Board(*TWO)
         for call in (lambda: board.post(0, {}), lambda: board.post_arrays(1, b"", b"")):
-            with self.assertRaises(pgboard.BadShape) as found:
+            with self.assertRaisesRegex(pgboard.BadShape, "^row 0: there is none, or its vertex is not in the game or ") as found:
                 call()
             self.assertEqual(found.exception.at, 0)
 
@@ -504,8 +505,8 @@ class Boards(unittest.TestCase):
     def test_refusals_have_places_and_texts(self):
         board = pgboard.Board([0, 1, 0, 1], [2, 1, 0, 1], [[0, 1], [1], [0, 3], [2, 3]])
         shape = (
-            "row 1: its vertex is not in the game or not greater than the one before, or has no choice that is a successor where the "
-            "player owns it, or a choice where he does not"
+            "row 1: there is none, or its vertex is not in the game or not greater than the one before, or has no choice that is a "
+            "successor where the player owns it, or a choice where he does not"
         )
         first = [
             (pgboard.BadShape, 1, 0, {2: 3, 3: 2}, shape),
@@ -575,8 +576,9 @@ class Boards(unittest.TestCase):
     def test_examples(self):
         self.assertEqual(doctest.testmod(module), (0, 1))
         page = pathlib.Path(__file__).with_name("README.md").read_text(encoding="utf-8")
-        example = doctest.DocTestParser().get_doctest(page.split("A board takes")[1].split("```")[1], {"pgboard": pgboard}, "README.md", None, 0)
-        self.assertEqual(doctest.DocTestRunner().run(example), (0, 5))
+        parser, blocks = doctest.DocTestParser(), re.findall(r"(?ms)^```text\n(>>> .*?)^```$", page)
+        examples = [parser.get_doctest(it, {"pgboard": pgboard}, "README.md", None, 0) for it in blocks]
+        self.assertEqual([doctest.DocTestRunner().run(it) for it in examples], [(0, 3), (0, 5)])
 
     def test_a_handler_of_a_signal_may_call_the_board(self):
         program = (

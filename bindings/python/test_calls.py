@@ -463,7 +463,7 @@ class Slices(Tests):
                 self.assertEqual((is_enough, steps is None or take.used <= steps + 1), (steps is None or steps >= needed, True), (needed, steps))
         self.assertGreater(max(given), 1)
 
-    def by_clock(self, cost, limits=slices.Limits(), needed=10**9, slowest=None, vertices=5, wait=0):
+    def by_clock(self, cost, timeout=None, cancel=None, needed=10**9, slowest=None, vertices=5, wait=0):
         """The seconds that each slice of a call takes, where a step takes so many, after a wait for its turn; and what ended the call."""
         now, took = [100.0], []
         take, _ = self.counting(needed, searches=0)
@@ -475,36 +475,37 @@ class Slices(Tests):
             return found._replace(seconds=took[-1])
 
         with mock.patch.object(slices.time, "monotonic", lambda: now[0]):
+            limits = slices.limits_of(timeout, cancel)
             return took, outcome_of(lambda: slices.advance(slow, vertices, limits, None))
 
     def test_slices_take_some_milliseconds(self):
         for cost in (1e-6, 3e-6, 1e-5, 1e-4, 1e-3, 0.004):
-            took, ended = self.by_clock(cost, slices.Limits(timeout=2))
+            took, ended = self.by_clock(cost, timeout=2)
             self.assertEqual(ended, (pgboard.TimedOut, 0, 0))
             self.assertLessEqual(max(took), 0.03, cost)
             self.assertGreaterEqual(min(took[20:]), 0.01, cost)
-        self.assertEqual(set(self.by_clock(0.5, slices.Limits(timeout=5))[0]), {0.5})
+        self.assertEqual(set(self.by_clock(0.5, timeout=5)[0]), {0.5})
         # (a wait is no part of a slice)
-        took, _ = self.by_clock(1e-6, slices.Limits(timeout=20), wait=0.05)
+        took, _ = self.by_clock(1e-6, timeout=20, wait=0.05)
         self.assertTrue(0.01 <= min(took[20:]) <= max(took) <= 0.03)
         # (the steps get slow in the middle: a slice or two are long, and then none)
-        took, _ = self.by_clock(1e-6, slices.Limits(timeout=60), slowest=1e-3)
+        took, _ = self.by_clock(1e-6, timeout=60, slowest=1e-3)
         late = took[[it > 0.03 for it in took].index(True) :]
         self.assertLessEqual(sum(it > 0.03 for it in late), 2)
         self.assertGreater(len(late), 100)
         # (of a large game the first long slice has few steps)
-        took, _ = self.by_clock(1e-6, slices.Limits(timeout=30), slowest=0.01, vertices=10**6)
+        took, _ = self.by_clock(1e-6, timeout=30, slowest=0.01, vertices=10**6)
         self.assertEqual((max(took), [round(it * 1e6) for it in took[:7]]), (20 * 0.01, [1, 2, 4, 8, 16, 20, 20]))
 
     def test_limits_are_looked_at_before_each_slice(self):
         cancel = pgboard.Cancel()
-        took, ended = self.by_clock(0.25, slices.Limits(timeout=1))
+        took, ended = self.by_clock(0.25, timeout=1)
         self.assertEqual((took, ended), ([0.25] * 4, (pgboard.TimedOut, 0, 0)))
-        self.assertEqual(self.by_clock(0.25, slices.Limits(timeout=1), needed=4), ([0.25] * 4, None))
-        self.assertEqual(self.by_clock(0.25, slices.Limits(timeout=0)), ([], (pgboard.TimedOut, 0, 0)))
-        self.assertEqual(self.by_clock(0.25, slices.Limits(None, cancel), needed=3), ([0.25] * 3, None))
+        self.assertEqual(self.by_clock(0.25, timeout=1, needed=4), ([0.25] * 4, None))
+        self.assertEqual(self.by_clock(0.25, timeout=0), ([], (pgboard.TimedOut, 0, 0)))
+        self.assertEqual(self.by_clock(0.25, cancel=cancel, needed=3), ([0.25] * 3, None))
         cancel.cancel()
-        self.assertEqual(self.by_clock(0.25, slices.Limits(None, cancel)), ([], (pgboard.Cancelled, 0, 0)))
+        self.assertEqual(self.by_clock(0.25, cancel=cancel), ([], (pgboard.Cancelled, 0, 0)))
 
         def take(steps):
             take.cancel.cancel()

@@ -3,11 +3,9 @@
 import collections
 import ctypes
 import itertools
-import os
 import pathlib
 import random
 import signal
-import subprocess
 import sys
 import threading
 import time
@@ -21,41 +19,6 @@ from test_board import TWO, Poster, claims_of_solution, lists_of, plain_game, po
 
 sys.path.append(str(pathlib.Path(__file__).resolve().parent.parent.parent / "tests"))
 import plain
-
-# a board that takes the recursion long, and an interrupt at its process during a slice
-LONG = """import os, signal, sys, threading, time
-sys.path.append(sys.argv[1])
-import pgboard, plain
-signal.signal(signal.SIGINT, signal.default_int_handler)
-game = plain.ladder(40)
-board = pgboard.Board(*zip(*((game[v][1], game[v][0], sorted(game[v][2])) for v in range(len(game)))))
-taken, take = [], pgboard.library.Handle.advance
-def counted(self, steps):
-    taken.append(steps)
-    return take(self, steps)
-pgboard.library.Handle.advance = counted
-def later(wanted):
-    while len(taken) < wanted:
-        time.sleep(0.001)
-    later.sent = time.monotonic()
-    os.kill(os.getpid(), signal.SIGINT)
-late = []
-for _ in range(4):
-    thread = threading.Thread(target=later, args=(len(taken) + 40,))
-    thread.start()
-    try:
-        board.finish()
-    except KeyboardInterrupt:
-        late.append(time.monotonic() - later.sent)
-    thread.join()
-# (other work on the machine may take a second once, and not four times)
-print(len(late), min(late) < 1)
-for limits, fault in (({"steps": 1000}, pgboard.GaveUp), ({"timeout": 0.2}, pgboard.TimedOut)):
-    try:
-        board.finish(**limits)
-    except fault:
-        print(fault.__name__, len(board.unsettled()) + board.settled)
-"""
 
 
 class Finishing(unittest.TestCase):
@@ -188,12 +151,6 @@ class Finishing(unittest.TestCase):
             self.assertGreater(library.LIBRARY.calls, 10)
         with mock.patch.object(library, "LIBRARY", Refusing()), self.assertRaises(pgboard.OutOfMemory):
             pgboard.solve(*game)
-
-    def test_an_interrupt_ends_finish(self):
-        words = [sys.executable, "-B", "-c", LONG, os.path.dirname(plain.__file__)]
-        here = pathlib.Path(pgboard.__file__).parent.parent
-        ran = subprocess.run(words, cwd=here, capture_output=True, text=True, timeout=60, check=False)
-        self.assertEqual((ran.returncode, ran.stdout), (0, "4 True\nGaveUp 200\nTimedOut 200\n"), ran.stderr)
 
     def slices(self, act=lambda count: None):
         """Counts the slices of all boards to the end of the test, and acts before each."""

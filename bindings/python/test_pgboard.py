@@ -210,6 +210,13 @@ class Arrays(Tests):
         self.refused(pgboard.BadOwner, 1, 0, pgboard.solve, (it for it in [0, 256]), (it for it in [0, 1]), ([0] for _ in range(2)))
         self.refused(pgboard.BadPriority, 1, 0, pgboard.solve, (it for it in [0, 1]), (it for it in [0, -1]), ([0] for _ in range(2)))
         self.refused(pgboard.UnknownSuccessor, 1, 2**32, pgboard.solve, [0, 1], [0, 1], ((it for it in row) for row in [[0], [1, 2**32]]))
+        # (numbers that fit no array are refused in the library's order)
+        self.refused(pgboard.BadPriority, 0, 0, pgboard.solve, [0, 0], [2**31, 2**32], [[0], [0]])
+        self.refused(pgboard.BadOwner, 0, 0, pgboard.solve, [2], [0], [[-1]])
+        self.refused(pgboard.UnknownSuccessor, 0, 7, pgboard.solve, [0, 0], [0, 0], [[7, -1], [2**40]])
+        self.refused(pgboard.UnknownSuccessor, 1, -1, pgboard.solve, [0, 0, 0], [0, 0, 0], [[0], [1, -1], [5]])
+        self.refused(pgboard.BadOwner, 0, 0, pgboard.verify, [2], [0], [[0]], [256], [0])
+        self.refused(pgboard.BadWinner, 0, 0, pgboard.verify, [0], [0], [[0]], [256], [0])
         self.refused(pgboard.BadWinner, 1, 0, pgboard.verify, *TWO, (it for it in [0, 256]), (it for it in [0, 1]))
 
     def test_refuses_solutions(self):
@@ -387,6 +394,8 @@ class Buffers(Tests):
         self.refused(pgboard.BadPriority, 0, 0, pgboard.solve_csr, lists[0], [-1, 1], *lists[2:])
         self.refused(pgboard.UnknownSuccessor, 0, 2**32 + 1, pgboard.solve_csr, *lists[:3], [0, 2**32 + 1, 1])
         self.refused(pgboard.UnknownSuccessor, 1, -5, pgboard.solve_csr, *lists[:3], (0, 1, -5))
+        self.refused(pgboard.UnknownSuccessor, 0, -7, pgboard.solve_csr, [0], [0], [0, 2], [-7, -2])
+        self.refused(pgboard.UnknownSuccessor, 0, 2**40, pgboard.verify_csr, [0], [0], [0, 1], array("q", [2**40]), [0], [0])
         for at, name in enumerate(("owners", "priorities", "indptr", "indices")):
             for wrong in ([0, 1.5], ["0", "1"], [None]):
                 with self.assertRaisesRegex(TypeError, f"^{name}: a list of integers is needed: "):
@@ -602,7 +611,7 @@ class Package(Tests):
             self.assertIn(f"ImportError: pgboard: other.so is of version {version}, and this package of {mine}: install", err)
 
     def test_examples(self):
-        self.assertEqual(doctest.testmod(pgboard).failed, 0)
+        self.assertEqual(doctest.testmod(pgboard), (0, 2))
 
     def test_types_can_be_asked_for(self):
         for name in pgboard.__all__:
@@ -629,7 +638,7 @@ class Package(Tests):
         if numpy and "site-packages" not in numpy.__file__:
             taken.append("numpy.zeros(3)")
             head += "import numpy\n"
-        refused = ["[0.5, 1]", "3", "'text'", "None", "object()"]
+        refused = ["[0.5, 1]", "3", "'text'", "None", "object()", "range(3)"]
         call = "pgboard.solve_csr(b'', {0}, {0}, b'', known=(b'', {0}))"
         status, said = self.mypy("-c", head + "\n".join(map(call.format, taken)))
         self.assertEqual(status, 0, said)
@@ -651,6 +660,21 @@ class Package(Tests):
             self.assertEqual(python(call, **here).communicate(timeout=60), ("libpgboard.so.0 ([0], [0])\n", ""))
             os.symlink(pgboard.library.path_of_library(), f"{folder}/python/pgboard/libpgboard.so")
             self.assertEqual(python(call, **here).communicate(timeout=60), (f"{folder}/python/pgboard/libpgboard.so ([0], [0])\n", ""))
+            here["PGBOARD_LIBRARY"] = f"{folder}/libpgboard.so.0"
+            self.assertEqual(python(call, **here).communicate(timeout=60), (f"{folder}/libpgboard.so.0 ([0], [0])\n", ""))
+
+    def test_finds_the_library_of_the_repository(self):
+        with tempfile.TemporaryDirectory() as folder:
+            folder = os.path.realpath(folder)
+            shutil.copytree(os.path.dirname(pgboard.__file__), f"{folder}/bindings/python/pgboard", ignore=lambda *_: {"libpgboard.so"})
+            built = f"{folder}/crates/pgboard_c/out/libpgboard.so"
+            os.makedirs(os.path.dirname(built))
+            os.symlink(pgboard.library.path_of_library(), built)
+            # (the system's comes after it)
+            os.symlink(pgboard.library.path_of_library(), f"{folder}/libpgboard.so.0")
+            here = {"cwd": f"{folder}/bindings/python", "PYTHONPATH": "", "PGBOARD_LIBRARY": "", "LD_LIBRARY_PATH": folder}
+            call = "import pgboard; print(pgboard.library.LIBRARY._name)"
+            self.assertEqual(python(call, **here).communicate(timeout=60), (f"{built}\n", ""))
 
 
 @unittest.skipUnless(networkx, "networkx is not installed")
@@ -683,6 +707,15 @@ class Graphs(Tests):
             files = {"game": text_of(*game), "solution": solution_text(winners, choices)}
             self.assertEqual(by_program("verify", files=files), (0, "ok\n"), game)
             self.assertEqual([w == o for w, o in zip(winners, game[0])], [it is not None for it in choices], game)
+
+    def test_other_rules(self):
+        graph = networkx.DiGraph([(0, 1), (1, 0)])
+        graph.add_node(2)
+        for v, priority in ((0, 1), (1, 2), (2, 0)):
+            graph.nodes[v].update(owner=0, priority=priority)
+        for least, winners in ((False, [0, 0, 1]), (True, [1, 1, 1])):
+            found = pgboard.solve_graph(graph, dead_ends=True, least=least)
+            self.assertEqual([it for _, it in found.nodes(data="winner")], winners)
 
     def test_what_was_found_before_is_gone(self):
         solved = pgboard.solve_graph(self.graph)

@@ -91,6 +91,11 @@ class Rules(Tests):
             self.refused(pgboard.BadLengths, 2, 0, pgboard.solve, [0, 0], [0, 1], [[0]], **how)
             self.refused(pgboard.BadOwner, 1, 0, pgboard.solve, [0, 2], [0, 1], [[0], [0]], **how)
             self.refused(pgboard.BadPriority, 1, 0, pgboard.solve, [0, 0], [0, 2**31], [[0], [0]], **how)
+            # (at a vertex without successors, whose priority is not looked at, too)
+            first = [] if "dead_ends" in how else [0]
+            self.refused(pgboard.BadPriority, 0, 0, pgboard.solve, [0] * 3, [2**31, 1, 2], [first, [2], [1]], **how)
+            starts = [0, *(len(first) + it for it in range(3))]
+            self.refused(pgboard.BadPriority, 0, 0, pgboard.solve_csr, bytes(3), array("i", [-1, 1, 2]), starts, [*first, 2, 1], **how)
             self.refused(pgboard.NoVertex, 0, 0, pgboard.solve, [], [], [], **how)
             self.refused(pgboard.BadRow, 0, 0, pgboard.solve_csr, [0, 0], [0, 0], [0, 3, 2], [0, 1], **how)
             self.refused(pgboard.BadRow, 0, 0, pgboard.solve_csr, [0, 0, 0], [0, 0, 0], [0, 9, 9, 2], [0, 1], **how)

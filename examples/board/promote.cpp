@@ -137,10 +137,11 @@ static Claim guess(const Game &game, const pgboard::solution &state, uint32_t se
             needed = {claim.rows[i].second};
         }
         for (uint32_t to : needed)
-            if (!is_in(to))
+            if (!is_in(to)) {
+                if (claim.rows.size() == 8)
+                    return {};
                 claim.rows.emplace_back(to, NONE);
-        if (claim.rows.size() > 8)
-            return {};
+            }
     }
     return claim;
 }
@@ -223,9 +224,12 @@ try {
     const Game game = read({std::istreambuf_iterator<char>(file), {}});
     Board board(game);
     share(board, game);
-    std::cout << text_of(game, board.finish()) << std::flush;
-    board.report({"the recursion", "promotion", "promotion in a part", "small dominions", "lies"});
+    if (!(std::cout << text_of(game, board.finish()) << std::flush))
+        stop("the solution cannot be written");
+    board.report({"the board itself", "promotion", "promotion in a part", "small dominions", "lies"});
     return 0;
 } catch (const pgboard::fault &fault) {
     stop(std::string(fault.what()) + " (" + std::to_string(fault.at) + ")");
+} catch (const std::exception &other) {
+    stop(other.what());
 }

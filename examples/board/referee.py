@@ -4,7 +4,7 @@
 Each --solver is a command that prints a solution, or a part of one, in
 PGSolver's format. All run at once. What each says that a player wins goes to
 a board as one claim. The board checks it: it settles what holds, and refuses
-the rest. Zielonka's recursion settles what no solver has found. Then the
+the rest. The board's own searches settle what no solver has found. Then the
 solution is printed, which is right whatever the solvers said.
 
 In a command {game} is the path of the game, in the form of `pgboard tidy`;
@@ -213,7 +213,7 @@ class Referee:
         before = self.game.board.settled
         self.game.board.finish()
         self.note(0, self.game.board.settled - before)
-        self.say(f"the recursion settled {self.game.board.settled - before} of {len(self.game.ids)}")
+        self.say(f"the board itself settled {self.game.board.settled - before} of {len(self.game.ids)}")
 
     def serve(self, solver, folder):
         """Runs a solver and posts what it prints; where the board is full then, the other solvers end."""
@@ -258,7 +258,7 @@ class Referee:
         last = max(self.posts[-1][0], 0.001)
         across = lambda seconds: f"{LEFT + (WIDTH - LEFT) * seconds / last:.1f}"
         up = lambda count: f"{TOP + (HEIGHT - TOP) * (1 - count / len(self.game.ids)):.1f}"
-        names = ["the recursion", *(it.command for it in self.solvers)]
+        names = ["the board itself", *(it.command for it in self.solvers)]
         lines = [
             f'<svg xmlns="http://www.w3.org/2000/svg" viewBox="0 0 {WIDTH + 20} {HEIGHT + 40 + 20 * len(names)}" font-family="DejaVu Sans" font-size="12">',
             f'<path d="M{LEFT},{TOP}V{HEIGHT}H{WIDTH}" fill="none" stroke="black"/>',
@@ -322,9 +322,10 @@ def main(words):
         raise MemoryError from error
     referee = Referee(game, solvers, given.time)
     referee.run()
+    sys.stdout.write(game.solution_text())
+    sys.stdout.flush()
     if given.picture:
         games.write(given.picture, referee.picture())
-    sys.stdout.write(game.solution_text())
     return 0
 
 

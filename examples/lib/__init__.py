@@ -8,6 +8,7 @@ import contextlib
 import os
 import signal
 import sys
+import time
 
 # the calls that a signal makes before it ends the script, the last one first
 undo = []
@@ -61,6 +62,19 @@ def undone(begin, end):
             last()
             if not undo:
                 on_signals(signal.SIG_DFL)
+
+
+def end(process):
+    """Ends a program, which may first end what it has started and remove what it has made."""
+    process.terminate()
+    # (a signal may interrupt `process.wait`, whose lock can't be taken twice)
+    with contextlib.suppress(ChildProcessError):
+        for _ in range(500):
+            if os.waitpid(process.pid, os.WNOHANG)[0]:
+                return
+            time.sleep(0.02)
+        process.kill()
+        os.waitpid(process.pid, 0)
 
 
 def read(path):

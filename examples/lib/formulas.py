@@ -196,7 +196,10 @@ class Formula:
         self.parts, self.free, self.texts = [], [], []
         # what the modalities have in their brackets, in order
         self.regulars = []
-        self.first, _, _ = self.add(self.parser.whole(), False, {})
+        try:
+            self.first, _, _ = self.add(self.parser.whole(), False, {})
+        except RecursionError:
+            self.parser.refuse("nested too deeply")
 
     def new(self, operator=None, text="", parts=(), actions=None, number=None):
         """Adds a subformula of some parts: its number, the fixed points whose variables are free in it, and its text."""
@@ -220,7 +223,7 @@ class Formula:
         if operator == "=>":
             left, right = self.add(rest[0], not negated, scope), self.add(rest[1], negated, scope)
             return self.join("&&" if negated else "||", left, right)
-        operator = DUAL[operator] if negated else operator
+        kind, operator = operator, DUAL[operator] if negated else operator
         if operator in ("<", "["):
             self.regulars.append(rest[0])
             return self.step(operator, rest[0], self.add(rest[1], negated, scope))
@@ -230,7 +233,15 @@ class Formula:
             return self.new(operator, f"{operator} {rest[0]}. {part[2]}", [part], number=number)
         if operator in VALUES:
             return self.new(operator, operator)
-        return self.join(operator, *(self.add(it, negated, scope) for it in rest))
+        # (a chain may be long, and is no nesting)
+        chain = []
+        while tree[0] == kind:
+            _, _, tree, right = tree
+            chain.append(right)
+        found = self.add(tree, negated, scope)
+        for it in reversed(chain):
+            found = self.join(operator, found, self.add(it, negated, scope))
+        return found
 
     def join(self, operator, left, right):
         return self.new(operator, f"({left[2]} {operator} {right[2]})", [left, right])

@@ -5,6 +5,7 @@ Games are max-parity games in PGSolver's format, where player 0 is Even.
 
 import argparse
 import contextlib
+import errno
 import gc
 import os
 import re
@@ -23,8 +24,9 @@ PLAYERS = ("Even", "Odd")
 PICTURES = ("dot", "svg", "png", "pdf")
 MOST_SHOWN = 60
 TOKEN = re.compile(r'"[^"]*"|[0-9]+|[A-Za-z]+|\S')
-# what stands before a semicolon, with single blanks
-VERTEX = re.compile(r'0*([0-9]{1,10}) 0*([0-9]{1,10}) 0*([01]) (0*[0-9]{1,10}(?: , 0*[0-9]{1,10})*)( "[^"]*")?')
+# what stands before a semicolon, with single blanks; a number is read in one way alone, whatever its zeros
+NUMBER = "0*(?:0|[1-9][0-9]{0,9})"
+VERTEX = re.compile(rf'0*([0-9]{{1,10}}) 0*([0-9]{{1,10}}) 0*([01]) ({NUMBER}(?: , {NUMBER})*)( "[^"]*")?')
 CHOICE = re.compile(r"0*([0-9]{1,10}) 0*([01])(?: 0*([0-9]{1,10}))?")
 HEADER, START, SOLUTION = (re.compile(f"{word} 0*([0-9]{{1,10}})") for word in ("parity", "start", "paritysol"))
 # a line of a solution as `solve` writes it
@@ -103,7 +105,9 @@ def run(name, main):
     except MemoryError:
         fault = "memory was refused"
     except OSError as error:
-        fault = Refused(f"{error.filename or 'standard output'}: {error.strerror}")
+        is_write = error.errno in (errno.EPIPE, errno.ENOSPC, errno.EFBIG, errno.EIO, errno.EBADF)
+        where = error.filename or ("standard output" if is_write else "")
+        fault = Refused(f"{where}: {error.strerror}" if where else error.strerror)
         # what is still to be written is not tried once more
         os.dup2(os.open(os.devnull, os.O_WRONLY), 1)
     # (where this can't be written, the status says so alone: Python's own would be 1, an answer)
@@ -224,19 +228,12 @@ def folder():
     return lib.undone(lambda: tempfile.mkdtemp(prefix="pgboard-"), lambda path: shutil.rmtree(path, ignore_errors=True))
 
 
-def end(process):
-    process.kill()
-    # (a signal may interrupt `process.wait`, whose lock can't be taken twice)
-    with contextlib.suppress(ChildProcessError):
-        os.waitpid(process.pid, 0)
-
-
 def pgboard(*words):
     """The status of the program where it is 0 or 1, and what it writes."""
     command = [*program(), *words]
     with tempfile.TemporaryFile() as out:
         how = {"stdin": subprocess.DEVNULL, "stdout": out, "stderr": subprocess.PIPE, "text": True, "errors": "backslashreplace"}
-        with lib.undone(lambda: subprocess.Popen(command, **how), end) as process, process.stderr:
+        with lib.undone(lambda: subprocess.Popen(command, **how), lib.end) as process, process.stderr:
             said = "".join(it for it in process.stderr if not is_warning(it))
             status = process.wait()
         out.seek(0)
@@ -365,7 +362,8 @@ picture_path.__name__ = "picture (.dot, .svg, .png or .pdf)"
 
 
 def quoted(text):
-    """A text as Graphviz takes it between quotes."""
+    """A text as Graphviz takes it between quotes, with what doesn't print spelled out."""
+    text = "\n".join(map(printable, text.split("\n")))
     return '"' + text.replace("\\", "\\\\").replace('"', '\\"') + '"'
 
 
@@ -393,7 +391,7 @@ def pictured(text, kind):
     if not shutil.which("dot"):
         raise Refused("no picture without Graphviz: the command dot is not on the PATH")
     how = {"stdin": subprocess.PIPE, "stdout": subprocess.PIPE, "stderr": subprocess.DEVNULL}
-    with lib.undone(lambda: subprocess.Popen(["dot", f"-T{kind}"], **how), end) as process:
+    with lib.undone(lambda: subprocess.Popen(["dot", f"-T{kind}"], **how), lib.end) as process:
         made, _ = process.communicate(text)
     if process.returncode:
         raise Refused(f"the command dot ended with status {process.returncode}")

@@ -210,7 +210,10 @@ class Automaton:
         return letters
 
     def label(self):
-        return self.tokens.chain(("|", "&"), self.atom, lambda operator, _, left, right: left | right if operator == "|" else left & right)
+        try:
+            return self.tokens.chain(("|", "&"), self.atom, lambda operator, _, left, right: left | right if operator == "|" else left & right)
+        except RecursionError:
+            self.tokens.refuse("nested too deeply")
 
     def atom(self):
         tokens = self.tokens
@@ -222,8 +225,9 @@ class Automaton:
             return letters
         if tokens.next_is("a number"):
             return self.holds[tokens.number(len(self.names))]
-        known = {"t": self.all, "f": 0, **self.aliases}
-        if not tokens.next_is(*known):
+        name = tokens.left[-1].text if tokens.left else ""
+        known = self.aliases if name in self.aliases else {"t": self.all, "f": 0}
+        if name not in known:
             tokens.refuse("expected a number of a proposition, t, f, an alias from above, ! or (")
         return known[tokens.take("a name").text]
 

@@ -171,6 +171,8 @@ static void readers()
     EXPECT(next == 40 && same.journal().size() == 20 && same.journal()[19].worker == 38 && same.entry(3).worker == 6);
     EXPECT(std::distance(same.journal().begin(), same.journal().end()) == 20);
     EXPECT(same.journal().begin()->worker == 0 && std::next(same.journal().begin(), 2)->vertices == same.entry(2).vertices);
+    auto at = same.journal().begin();
+    EXPECT((*at++).worker == 0 && at->worker == 2);
     EXPECT(same.settled() == 40 && same.entries() == 20 && same.state().choices == same.solution().choices);
     // entries that are added on the way follow
     pgboard::board other(loops(10, 1));

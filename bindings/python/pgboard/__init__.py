@@ -59,8 +59,8 @@ def solve_csr(
     exponential time on some games: GaveUp is raised if it begins more subgames. There may not be both. With `dead_ends` a vertex without
     successors is lost by its owner. With `least` the least priority that is seen again and again decides.
 
-    Raises TimedOut after `timeout` seconds, and Cancelled once another thread calls `cancel.cancel()`. Raises Refused, NotKnown or
-    OutOfMemory too, and TypeError for other arguments."""
+    Raises TimedOut before a slice that would begin after `timeout` seconds, and Cancelled once another thread calls `cancel.cancel()`.
+    Raises Refused, NotKnown or OutOfMemory too, and TypeError for other arguments."""
     if known is not None and steps is not None:
         raise TypeError("known and steps can't be given together")
     number, limits = bound(steps), limits_of(timeout, cancel)

@@ -7,7 +7,7 @@ import operator
 import os
 from array import array
 from itertools import accumulate
-from typing import TYPE_CHECKING, Any, Dict, Iterable, List, NamedTuple, Optional, Protocol, Sequence, Tuple, Type, Union
+from typing import TYPE_CHECKING, Any, Dict, Iterable, List, NamedTuple, Optional, Protocol, Sequence, Tuple, Union
 
 from . import faults
 from .library import NO_CHOICE, NO_WINNER, Ints
@@ -42,7 +42,8 @@ class Rows(Protocol):
     def indices(self) -> Any: ...
 
 
-Buffer = Union[bytes, bytearray, memoryview, Ints, HasBuffer, HasArrayInterface, Sequence[int]]
+Listed = Union[Ints, List[int]]
+Buffer = Union[bytes, bytearray, memoryview, Ints, HasBuffer, HasArrayInterface, List[int], Tuple[int, ...]]
 Numbers = Iterable[int]
 MaybeNumbers = Iterable[Optional[int]]
 Text = Union[str, bytes]
@@ -109,36 +110,37 @@ def listed(name: str, values: Sequence[int], code: str) -> Ints:
         raise TypeError(f"{name}: a list of integers is needed: {error}") from error
 
 
-def numbers(code: str, values: Numbers, fault: Type[faults.Fault]) -> Ints:
-    """An array of these numbers; the fault, at the first that it can't hold."""
+def numbers(code: str, values: Numbers) -> Listed:
+    """An array of these numbers. Where it can't hold one, a list of them, which the library refuses later, in its own order."""
     held = values if isinstance(values, (list, tuple)) else list(values)
     try:
         return array(code, held)
-    except OverflowError as error:
-        raise fault(next(v for v, it in enumerate(held) if not 0 <= it < 2 ** (8 * array(code).itemsize))) from error
+    except OverflowError:
+        return list(held)
 
 
-def rows_of(successors: Iterable[Numbers]) -> Tuple[Ints, Ints]:
+def rows_of(successors: Iterable[Numbers]) -> Tuple[Ints, Listed]:
     """Where each row begins and ends, and the rows one after another."""
     starts, targets = array("I", [0]), array("I")
-    for v, row in enumerate(successors):
+    rest: List[int] = []
+    for row in successors:
         held = row if isinstance(row, (list, tuple)) else list(row)
         try:
-            targets.extend(held)
-        except OverflowError as error:
-            raise faults.UnknownSuccessor(v, next(it for it in held if not 0 <= it < 2**32)) from error
-        starts.append(len(targets))
-    return starts, targets
+            (rest or targets).extend(held)
+        except OverflowError:
+            rest = [*targets[: starts[-1]], *held]
+        starts.append(len(rest or targets))
+    return starts, rest or targets
 
 
-def game_of(owners: Numbers, priorities: Numbers, successors: Iterable[Numbers]) -> Tuple[Ints, Ints, Ints, Ints]:
+def game_of(owners: Numbers, priorities: Numbers, successors: Iterable[Numbers]) -> Tuple[Listed, Listed, Ints, Listed]:
     """The arrays of a game."""
-    return (numbers("B", owners, faults.BadOwner), numbers("I", priorities, faults.BadPriority), *rows_of(successors))
+    return (numbers("B", owners), numbers("I", priorities), *rows_of(successors))
 
 
-def claims_of(winners: MaybeNumbers, choices: MaybeNumbers) -> Tuple[Ints, Ints]:
+def claims_of(winners: MaybeNumbers, choices: MaybeNumbers) -> Tuple[Listed, Ints]:
     """The arrays of winners and choices. None is no winner, which is taken of what is known alone, or no choice."""
-    return numbers("B", [NO_WINNER if it is None else it for it in winners], faults.BadWinner), moves_of(choices)
+    return numbers("B", [NO_WINNER if it is None else it for it in winners]), moves_of(choices)
 
 
 def moves_of(choices: MaybeNumbers) -> Ints:
@@ -188,7 +190,9 @@ def with_loops(owners: memoryview, priorities: memoryview, indptr: memoryview, i
         return [owners, priorities, indptr, indices]
     targets, begin = array("I"), 0
     for v in dead:
-        ranks[v] = 1 - owners[v] % 2
+        # (what is no priority stays, and is refused)
+        if ranks[v] <= MOST:
+            ranks[v] = 1 - owners[v] % 2
         targets.frombytes(indices[begin : starts[v]].tobytes())
         targets.append(v)
         begin = starts[v]
@@ -206,5 +210,6 @@ def as_given(fault: faults.UnknownSuccessor, indptr: memoryview, indices: Buffer
     row: Sequence[int] = indices if isinstance(indices, (list, tuple)) else integers(memoryview(indices))  # type: ignore[arg-type]
     bounds = integers(indptr)[fault.at : fault.at + 2]
     row = row[slice(*bounds)] if len(bounds) == 2 else []
-    same = [it for it in row if it % 2**32 == fault.to] or [it for it in row if not 0 <= it < 2**32]
+    # (`fitting` puts this number in place of what does not fit)
+    same = [it for it in row if it % 2**32 == fault.to or fault.to == 2**32 - 2 and not 0 <= it < 2**32]
     return faults.UnknownSuccessor(fault.at, same[0]) if same else fault

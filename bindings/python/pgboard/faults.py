@@ -200,8 +200,8 @@ class BadClaimLengths(RefusedClaim):
 
 class BadShape(RefusedClaim):
     words = (
-        "row {at}: its vertex is not in the game or not greater than the one before, or has no choice that is a successor where the "
-        "player owns it, or a choice where he does not"
+        "row {at}: there is none, or its vertex is not in the game or not greater than the one before, or has no choice that is a "
+        "successor where the player owns it, or a choice where he does not"
     )
 
 

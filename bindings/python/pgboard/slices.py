@@ -25,28 +25,28 @@ class Cancel:
 
 
 class Limits(NamedTuple):
-    """When a call is to end without a result: after so many seconds, or after a `Cancel`."""
+    """When a call is to end without a result: from this moment on, or after a `Cancel`."""
 
-    timeout: Optional[float] = None
+    end: Optional[float] = None
     cancel: Optional[Cancel] = None
 
 
 def limits_of(timeout: Optional[float], cancel: Optional[Cancel]) -> Limits:
-    """The limits of a call; TypeError or ValueError for what are none."""
+    """The limits of a call that begins now; TypeError or ValueError for what are none."""
     if timeout is not None and (isinstance(timeout, bool) or not isinstance(timeout, (int, float))):
         raise TypeError(f"timeout is a number of seconds, not {type(timeout).__name__}")
     if timeout is not None and not 0 <= timeout:
         raise ValueError(f"timeout {timeout} is not 0 or more")
     if cancel is not None and not isinstance(cancel, Cancel):
         raise TypeError(f"cancel is a pgboard.Cancel, not {type(cancel).__name__}")
-    return Limits(timeout, cancel)
+    return Limits(None if timeout is None else time.monotonic() + timeout, cancel)
 
 
-def check(limits: Limits, begun: float) -> None:
-    """Raises Cancelled or TimedOut where a call that began then has to end."""
+def check(limits: Limits) -> None:
+    """Raises Cancelled or TimedOut where a call has to end."""
     if limits.cancel is not None and limits.cancel.is_cancelled:
         raise Cancelled
-    if limits.timeout is not None and time.monotonic() - begun >= limits.timeout:
+    if limits.end is not None and time.monotonic() >= limits.end:
         raise TimedOut
 
 
@@ -61,10 +61,9 @@ class Slice(NamedTuple):
 def advance(take: Callable[[int], Slice], vertices: int, limits: Limits, steps: Optional[int]) -> None:
     """Takes slices of a game with so many vertices until nothing is left; `take` makes one of up to so many steps. Raises GaveUp if more
     than `steps` are needed, and TimedOut or Cancelled before a slice."""
-    begun = time.monotonic()
     size, left = 1, steps
     while True:
-        check(limits, begun)
+        check(limits)
         # (one step above the bound says that more are needed)
         taken = take(size if left is None else min(size, left + 1))
         if left is not None:

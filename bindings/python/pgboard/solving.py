@@ -3,7 +3,6 @@
 from __future__ import annotations
 
 import contextlib
-import time
 from array import array
 from typing import Iterator, List, Optional, Sequence
 
@@ -35,7 +34,7 @@ def solve_arrays(game: List[Ints], known: Optional[List[Ints]], steps: Optional[
     """A solution of a game, from what is known of it, or by a recursion of so many steps."""
     given = [game] if known is None else [game, known]
     if sum([len(it) * it.itemsize for group in given for it in group]) <= SMALL:
-        check(limits, time.monotonic())
+        check(limits)
         return at_once(given, steps)
     with closing_board() as board:
         try:
