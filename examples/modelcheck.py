@@ -36,8 +36,8 @@ fixed point. The words or, and, not are the same as ||, && and !. % begins a
 comment that ends with its line.
 
 Standard error names each action that is no label of the model, since it may be
-a typing error. Neither tau is named nor an action under an odd number of
-negations, where the left side of => counts as one.
+a typing error, but neither tau nor an action that inside its brackets stands
+under an odd number of negations. The left side of => counts as one.
 
 example, that two processes are never inside at a time, and that the first one
 who asks doesn't wait for ever:

@@ -311,7 +311,7 @@ class board {
 
     std::uint64_t settled() const { return pgboard_board_settled(&held); }
     std::uint64_t entries() const { return pgboard_board_entries(&held); }
-    // (it reads this board, at its place)
+    // (a journal refers to this board, which has to outlive it and not be moved)
     pgboard::journal journal() const & { return pgboard::journal(*this); }
     pgboard::journal journal() const && = delete;
 

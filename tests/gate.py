@@ -115,7 +115,7 @@ class Gate(unittest.TestCase):
 
     def run_test(self, *words, is_root=True, **env):
         """Status, output and error of ./test, as root or not."""
-        begin = "" if is_root else "import os; os.geteuid = lambda: 1000; "
+        begin = f"import os; os.geteuid = lambda: {0 if is_root else 1000}; "
         program = f"{begin}import runpy; runpy.run_path('{self.top}/test', run_name='__main__')"
         env = {"PATH": str(self.path), **env}
         status, out, err = common.run([sys.executable, "-B", "-c", program, *words], cwd=self.top, env=env)
@@ -201,6 +201,8 @@ class Gate(unittest.TestCase):
     def test_the_gate_runs_all_over_a_copy_of_the_program_of_rt(self):
         common.write_program(self.top / "out" / "unproved" / "pgboard", "#!/bin/sh\n")
         common.write_program(self.built, "#!/bin/sh\n# of rt\n")
+        for it in ("pg_low/src", "pg_high/src", "pg_kept/must-fail"):
+            (self.top / "crates" / it).mkdir(parents=True)
         for name in self.scripts:
             wanted = "#!/bin/sh\n# of rt\n" if name not in ("bodies", "gate", "theorem") else None
             is_copy = "common.PROGRAM != common.BUILT and common.PROGRAM.is_file() and common.PROGRAM.read_text()"
@@ -210,7 +212,7 @@ class Gate(unittest.TestCase):
         status, out, err = self.run_test()
         self.assertEqual((status, err), (0, ""), out)
         lines = out.splitlines()
-        what = f"`rt ci` of 0 crates and {len(self.scripts)} scripts"
+        what = f"`rt ci` of 2 crates and {len(self.scripts)} scripts"
         takes = re.search(r"the gate takes (.* on four processors and .* on two), from nothing", common.text_of("CONTRIBUTING.md"))[1]
         self.assertRegex(lines[0], rf"^test: {what}; about {takes}; logs in .*/out/test$")
         self.assertRegex(lines[-2], r"^ +0:\d\d  in all, and \d+ minutes of processor time$")
@@ -275,12 +277,14 @@ class Gate(unittest.TestCase):
         common.write_program(unproved, "#!/bin/sh\n")
         os.utime(self.built, (0, 0))
         quick = [it for it in self.scripts if it not in ("bodies", "embed", "package", "boards")]
-        for words, names in ((["scripts"], quick), (["uses", "cli"], ["cli", "uses"]), (["embed"], ["embed"])):
+        quarter, half = "a quarter of an hour", "half an hour"
+        for words, names, takes in ((["scripts"], quick, quarter), (["uses", "cli"], ["cli", "uses"], quarter), (["embed"], ["embed"], half)):
             with self.subTest(words):
                 for name in self.scripts:
                     self.script(name, f"self.assertEqual(str(common.PROGRAM), '{unproved}')" if name in names else "self.fail()")
                 status, out, err = self.run_test(*words)
                 self.assertEqual((status, err, out.splitlines()[-1]), (0, "", f"{len(names)} passed, 0 failed"), out)
+                self.assertRegex(out, rf"^test: {len(names)} scripts; about {takes}; logs in ")
         status, out, err = self.run_test("proofs")
         self.assertEqual((status, out.splitlines()[-1]), (0, "9 passed, 0 failed"))
 

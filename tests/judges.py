@@ -7,7 +7,9 @@ Each gets something right, which it has to take, and the same with one thing wro
 
 import itertools
 import random
+import types
 import unittest
+import unittest.mock
 
 import circuits
 import common
@@ -15,6 +17,8 @@ import modelcheck
 import plain
 import plain_board
 import random_games
+import scripts
+import synthesise
 
 GAME = {3: (2, 0, {3, 9}), 9: (1, 1, {9}), 12: (0, 1, {3})}
 # each vertex leads to the one before, and the first one to itself
@@ -46,6 +50,29 @@ class Judges(unittest.TestCase):
         ]:
             with self.subTest(entry):
                 self.assertEqual(plain_board.Board(game).entry_fault(0, rows, entry), fault)
+
+    def test_growth(self):
+        now = [0.0]
+
+        def taking(power):
+            def call(count):
+                now[0] += (count / 1000) ** power
+
+            return call
+
+        with unittest.mock.patch.object(scripts.time, "process_time", lambda: now[0]):
+            scripts.Use.check_growth(self, taking(1), 1000)
+            for power in (2, 3):
+                with self.subTest(power), self.assertRaises(AssertionError):
+                    scripts.Use.check_growth(self, taking(power), 1000)
+
+    def test_an_environment_that_reads_before_it_chooses(self):
+        edges = {(0, letter): (0, set()) for letter in range(4)}
+        automaton = types.SimpleNamespace(controllable=[0], width=2, first=0, next=edges)
+        text = "# inputs: p0\n# outputs: p1\n.i 1\n.o 1\n.p 2\n.s 1\n.r s0\n0 s0 s0 0\n1 s0 s0 {}\n.e\n"
+        synthesise.product(automaton, synthesise.Machine(text.format(0)), True)
+        with self.assertRaises(AssertionError):
+            synthesise.product(automaton, synthesise.Machine(text.format(1)), True)
 
     def test_an_entry_beside_what_is_settled(self):
         board = plain_board.Board(CHAIN)

@@ -546,7 +546,9 @@ class ModelCheck(scripts.Use, unittest.TestCase):
             with self.assertRaisesRegex(self.script.Refused, ":2: not of the form"):
                 self.call(self.model, "true")
 
-        self.check_growth(refuse, 1_000)
+        # (cubic time is found at the first size, and quadratic time at the second)
+        for size in (1_000, 20_000):
+            self.check_growth(refuse, size)
 
     def test_what_is_too_large(self):
         status, out, err = self.run_script(self.model, "(" * 5000 + "true" + ")" * 5000)

@@ -180,7 +180,8 @@ class Packaged(unittest.TestCase):
         common.copy_crates(other)
         library.take_as_built(other, "pgboard_program")
         (self.folder / "scratch").mkdir()
-        self.tree.env.update(TMPDIR=str(self.folder / "scratch"), TZ="Asia/Tokyo", LC_ALL="C.UTF-8")
+        self.addCleanup(setattr, self.tree, "env", self.tree.env)
+        self.tree.env = {**self.tree.env, "TMPDIR": str(self.folder / "scratch"), "TZ": "Asia/Tokyo", "LC_ALL": "C.UTF-8"}
         self.tree.env.update(GIT_CONFIG_COUNT="1", GIT_CONFIG_KEY_0="core.autocrlf", GIT_CONFIG_VALUE_0="true")
         kept = os.umask(0o077)
         try:
@@ -196,7 +197,6 @@ class Packaged(unittest.TestCase):
         edit = f'[ "$1" != run ] || echo >> "{program}"'
         common.write_program(self.folder / "edits" / "rt", f'#!/bin/sh\n"{rt}" "$@"; status=$?\n{edit}\nexit $status\n')
         self.tree.env["PATH"] = f"{self.folder}/edits:{os.environ['PATH']}"
-        self.addCleanup(self.tree.env.update, PATH=os.environ["PATH"])
         status, said = self.tree.package(self.folder / "none", other)
         self.assertEqual((status, said.count("\n")), (1, 1), said)
         self.assertRegex(said, r"\Apackage: .*pgboard_program\.o is not the object of the proved program\n\Z")
@@ -266,11 +266,14 @@ class Packaged(unittest.TestCase):
         common.write_program(edits / "dpkg-buildpackage", "#!/bin/sh\nexit 1\n")
         status, out, err = common.run([top / "package"], timeout=3000, env=env)
         self.assertEqual((status, os.listdir(top / "dist")), (1, ["old"]), out + err)
+        self.assertTrue(err.startswith(b"package: dpkg-buildpackage "), err)
         (edits / "dpkg-buildpackage").unlink()
         status, out, err = common.run([top / "package"], timeout=3000, env=env)
         self.assertEqual((status, err), (0, b""), out + err)
         self.assertEqual(sorted(os.listdir(top / "dist")), sorted(os.listdir(self.dist)))
         self.assertIn("\nproofs made by rt in this build\n", (top / "dist" / "PROVENANCE").read_text(encoding="ascii"))
+        # (a copy of the crates was proved)
+        self.assertEqual([*top.glob("crates/*/out")], [])
 
     def test_a_folder_that_is_there_is_left(self):
         self.assertEqual(self.tree.package(self.dist), (1, f"package: {self.dist} is there already\n"))

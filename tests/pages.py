@@ -364,7 +364,7 @@ def is_in(code, file):
 class Judge(unittest.TestCase):
     def test_what_is_in_a_file(self):
         self.assertTrue(is_in("use b;\na;\nc;\n", "use b;\nx;\n    a;\n\n    c;\n"))
-        for code in ("a;\nc;\n", "use d;\na;\n", "use a;\n", ""):
+        for code in ("a;\nb;\n", "a;\nc;\n", "use d;\na;\n", "use a;\n", ""):
             with self.subTest(code):
                 self.assertFalse(is_in(code, "use a;\na;\nassert!(x);\nb;\nc;\n"))
 

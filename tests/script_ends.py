@@ -105,11 +105,11 @@ class Ends(unittest.TestCase):
             for named, said in (("/o'brien/pgboard", "PGBOARD: No closing quotation: /o'brien/pgboard"), (" ", "PGBOARD has no word")):
                 self.assertEqual(self.run_script(script, words, PGBOARD=named), (2, "", f"{script}: {said}\n"))
 
-    def start(self, command, closes="", waits="exec sleep 99", **how):
+    def start(self, command, closes="", waits="exec sleep 99", first=":", **how):
         """Starts a command that makes temporary files in a folder of its own, and runs a program that waits; and its number."""
         temporary, number = self.folder / "temporary", self.folder / "number"
         temporary.mkdir(exist_ok=True)
-        program = self.program(f"echo $$ > {number}.new; mv {number}.new {number}; {waits} {closes}")
+        program = self.program(f"{first}; echo $$ > {number}.new; mv {number}.new {number}; {waits} {closes}")
         env = {**os.environ, "PGBOARD": program, "TMPDIR": str(temporary)}
         process = subprocess.Popen(command, stdout=subprocess.PIPE, stderr=subprocess.PIPE, env=env, **how)
         self.addCleanup(process.kill)
@@ -143,9 +143,10 @@ class Ends(unittest.TestCase):
     def test_the_program_may_end_what_it_has_started(self):
         """It gets SIGTERM first, and SIGKILL where it has not ended some seconds later."""
         ended = self.folder / "ended"
-        for waits, has_ended in ((f"trap 'sleep 0.5; touch {ended}; exit 1' TERM; sleep 99 & wait", True), ("trap '' TERM; sleep 99 & wait", False)):
+        ends = f"trap 'kill $!; sleep 0.5; touch {ended}; exit 1' TERM"
+        for first, waits, has_ended in ((ends, "sleep 99 & wait", True), ("trap '' TERM", "exec sleep 99", False)):
             for number in SIGNALS if has_ended else SIGNALS[:1]:
-                process, program = self.start(self.command("winner", ANSWERS["winner"][0][0]), waits=waits)
+                process, program = self.start(self.command("winner", ANSWERS["winner"][0][0]), waits=waits, first=first)
                 process.send_signal(number)
                 self.check_ended(process, number, program)
                 self.assertEqual(ended.exists(), has_ended)

@@ -88,9 +88,14 @@ class Calls(Tests):
             "            late.append(time.monotonic() - interrupt.sent)\n"
             "            print(late[-1] < 10, wait_for(lambda: threading.active_count() == 1))\n"
             "    print(min(late) < 1)\n"
+            "for limits, fault in (({'steps': 1000}, pgboard.GaveUp), ({'timeout': 0.2}, pgboard.TimedOut)):\n"
+            "    try:\n"
+            "        board.finish(**limits)\n"
+            "    except fault:\n"
+            "        print(fault.__name__, len(board.unsettled()) + board.settled == len(ENDLESS[0]))\n"
         )
         # (other work on the machine may take a second once, and not four times)
-        self.assertEqual(self.run_of(program), ("True True\n" * 4 + "True\n") * 3)
+        self.assertEqual(self.run_of(program), ("True True\n" * 4 + "True\n") * 3 + "GaveUp True\nTimedOut True\n")
 
     def test_an_interrupt_leaves_the_calls_of_other_threads(self):
         program = (
@@ -282,7 +287,7 @@ class Calls(Tests):
 
     def test_limits_that_suffice_have_no_effect(self):
         game, cancel = ([0] * 200, [0] * 200, [[0]] * 200), pgboard.Cancel()
-        for how in ({"timeout": 600}, {"timeout": 1e300}, {"timeout": float("inf")}, {"cancel": cancel}, {"timeout": None, "cancel": None}):
+        for how in ({"timeout": 600}, {"timeout": 1e300}, {"timeout": 10**400}, {"timeout": float("inf")}, {"cancel": cancel}, {"timeout": None, "cancel": None}):
             self.assertEqual(pgboard.solve(*game, **how)[0], [0] * 200)
             self.assertEqual(pgboard.solve(*TWO, **how), ([0, 1], [0, 1]))
             self.assertEqual(pgboard.solve_text(GAME, **how), "paritysol 9;\n3 0 3;\n9 1 9;\n")
@@ -496,6 +501,18 @@ class Slices(Tests):
         # (of a large game the first long slice has few steps)
         took, _ = self.by_clock(1e-6, timeout=30, slowest=0.01, vertices=10**6)
         self.assertEqual((max(took), [round(it * 1e6) for it in took[:7]]), (20 * 0.01, [1, 2, 4, 8, 16, 20, 20]))
+
+    def test_the_time_that_it_takes_to_open_a_board_counts(self):
+        now, begin, game = [100.0], pgboard.library.Handle.open, ([0] * 200, [0] * 200, [[0]] * 200)
+
+        def opened(handle, game):
+            begin(handle, game)
+            now[0] += 2
+
+        with mock.patch.object(slices.time, "monotonic", lambda: now[0]), mock.patch.object(pgboard.library.Handle, "open", opened):
+            self.assertEqual(pgboard.solve(*game, timeout=3)[0], [0] * 200)
+            with self.assertRaises(pgboard.TimedOut):
+                pgboard.solve(*game, timeout=1)
 
     def test_limits_are_looked_at_before_each_slice(self):
         cancel = pgboard.Cancel()

@@ -4,7 +4,7 @@
 Each --solver is a command that prints a solution, or a part of one, in
 PGSolver's format. All run at once. What each says that a player wins goes to
 a board as one claim. The board checks it: it settles what holds, and refuses
-the rest. The board's own searches settle what no solver has found. Then the
+the rest. The board itself settles what no solver has found. Then the
 solution is printed, which is right whatever the solvers said.
 
 In a command {game} is the path of the game, in the form of `pgboard tidy`;
@@ -47,7 +47,7 @@ examples:
   examples/board/referee.py --time 5 --picture run.svg \\
       --solver 'a-solver {game}' --solver 'another' game.pg
 
-status: 0 where the solution is printed, 2 where something was refused
+status: 0 where all is written, 2 where something was refused
 """
 # a solver may print so many bytes; a text that pgboard takes is not longer
 MOST = 268_435_456

@@ -105,7 +105,7 @@ def run(name, main):
     except MemoryError:
         fault = "memory was refused"
     except OSError as error:
-        is_write = error.errno in (errno.EPIPE, errno.ENOSPC, errno.EFBIG, errno.EIO, errno.EBADF)
+        is_write = error.errno in (errno.EPIPE, errno.ENOSPC, errno.EDQUOT, errno.EFBIG, errno.EIO, errno.EBADF)
         where = error.filename or ("standard output" if is_write else "")
         fault = Refused(f"{where}: {error.strerror}" if where else error.strerror)
         # what is still to be written is not tried once more
@@ -370,7 +370,7 @@ def quoted(text):
 def draw(path, count, lines):
     """Writes a picture of so many vertices."""
     head = ["digraph {", '    node [fontname="DejaVu Sans"];', '    edge [fontname="DejaVu Sans"];']
-    write_picture(path, count, "\n".join([*head, *(f"    {line};" for line in lines), "}", ""]).encode(errors="replace"))
+    write_picture(path, count, "\n".join([*head, *(f"    {line};" for line in lines), "}", ""]).encode())
 
 
 def write_picture(path, count, text):

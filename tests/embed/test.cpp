@@ -6,6 +6,7 @@
 #include <cstring>
 #include <functional>
 #include <iostream>
+#include <type_traits>
 #include <utility>
 #if __cplusplus >= 202002L
 #include <span>
@@ -21,6 +22,11 @@ static const pgboard::game two{{0, 1}, {2, 1}, {0, 2, 3}, {0, 1, 1}};
 
 // A game of which the searches leave something to the recursion.
 static const pgboard::game five{{1, 1, 1, 0, 0}, {0, 4, 2, 3, 5}, {0, 1, 2, 4, 5, 7}, {4, 4, 3, 2, 2, 1, 0}};
+
+// A journal is of a board that stays.
+template <class Of, class = void> struct has_journal : std::false_type {};
+template <class Of> struct has_journal<Of, std::void_t<decltype(std::declval<Of>().journal())>> : std::true_type {};
+static_assert(has_journal<const pgboard::board &>::value && !has_journal<pgboard::board>::value, "the board of a journal stays");
 
 static bool refuses(std::uint32_t answer, std::uint64_t at, std::uint64_t to, const std::function<void()> &call)
 {

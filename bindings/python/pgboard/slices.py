@@ -25,7 +25,7 @@ class Cancel:
 
 
 class Limits(NamedTuple):
-    """When a call is to end without a result: from this moment on, or after a `Cancel`."""
+    """When a call is to end without a result: at this time of the monotonic clock, or after a `Cancel`."""
 
     end: Optional[float] = None
     cancel: Optional[Cancel] = None
@@ -39,7 +39,8 @@ def limits_of(timeout: Optional[float], cancel: Optional[Cancel]) -> Limits:
         raise ValueError(f"timeout {timeout} is not 0 or more")
     if cancel is not None and not isinstance(cancel, Cancel):
         raise TypeError(f"cancel is a pgboard.Cancel, not {type(cancel).__name__}")
-    return Limits(None if timeout is None else time.monotonic() + timeout, cancel)
+    # (a great integer is no float)
+    return Limits(None if timeout is None else time.monotonic() + min(timeout, 1e9), cancel)
 
 
 def check(limits: Limits) -> None:
