@@ -214,7 +214,7 @@ class Gate(unittest.TestCase):
         lines = out.splitlines()
         what = f"`rt ci` of 2 crates and {len(self.scripts)} scripts"
         takes = re.search(r"the gate takes (.* on four processors and .* on two), from nothing", common.text_of("CONTRIBUTING.md"))[1]
-        self.assertRegex(lines[0], rf"^test: {what}; about {takes}; logs in .*/out/test$")
+        self.assertRegex(lines[0], rf"^test: {what}; it takes {takes}; logs in .*/out/test$")
         self.assertRegex(lines[-2], r"^ +0:\d\d  in all, and \d+ minutes of processor time$")
         shown = [re.sub(r"^ +\d+:\d\d  ", "", it) for it in lines[1:]]
         crates = ["pg_low proved", "pg_low: its tests are proved", "pg_workers is kept", "pgboard_program proved"]
@@ -277,14 +277,14 @@ class Gate(unittest.TestCase):
         common.write_program(unproved, "#!/bin/sh\n")
         os.utime(self.built, (0, 0))
         quick = [it for it in self.scripts if it not in ("bodies", "embed", "package", "boards")]
-        quarter, half = "a quarter of an hour", "half an hour"
+        quarter, half = "about a quarter of an hour", "about half an hour"
         for words, names, takes in ((["scripts"], quick, quarter), (["uses", "cli"], ["cli", "uses"], quarter), (["embed"], ["embed"], half)):
             with self.subTest(words):
                 for name in self.scripts:
                     self.script(name, f"self.assertEqual(str(common.PROGRAM), '{unproved}')" if name in names else "self.fail()")
                 status, out, err = self.run_test(*words)
                 self.assertEqual((status, err, out.splitlines()[-1]), (0, "", f"{len(names)} passed, 0 failed"), out)
-                self.assertRegex(out, rf"^test: {len(names)} scripts; about {takes}; logs in ")
+                self.assertRegex(out, rf"^test: {len(names)} scripts; it takes {takes}; logs in ")
         status, out, err = self.run_test("proofs")
         self.assertEqual((status, out.splitlines()[-1]), (0, "9 passed, 0 failed"))
 
