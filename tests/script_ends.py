@@ -64,46 +64,50 @@ class Ends(unittest.TestCase):
         return status, out.decode(), re.sub("^modelcheck: size.*\n", "", err.decode())
 
     def answers(self, most=2):
+        """Each row of the table, with a context for what is tested of it."""
         for script, rows in ANSWERS.items():
             for status, (words, begins, said) in enumerate(rows[:most]):
-                with self.subTest(script, status=status):
-                    yield script, words, status, begins, said
+                yield self.subTest(script, status=status), (script, words, status, begins, said)
 
     def test_answers_and_what_help_says_of_their_status(self):
-        for script, words, wanted, begins, said in self.answers():
-            status, out, err = self.run_script(script, words)
-            self.assertEqual((status, err), (wanted, ""))
-            self.assertTrue(out.startswith(begins), out)
-            help = " ".join(self.run_script(script, ["--help"])[1].split())
-            self.assertRegex(help, rf"status: .*\b{re.escape(said)}(,|$)")
-            self.assertRegex(help, r", 2 or more where something was refused$")
+        for case, (script, words, wanted, begins, said) in self.answers():
+            with case:
+                status, out, err = self.run_script(script, words)
+                self.assertEqual((status, err), (wanted, ""))
+                self.assertTrue(out.startswith(begins), out)
+                help = " ".join(self.run_script(script, ["--help"])[1].split())
+                self.assertRegex(help, rf"status: .*\b{re.escape(said)}(,|$)")
+                self.assertRegex(help, r", 2 or more where something was refused$")
 
     def test_other_statuses_of_the_program(self):
         """A status above 1 and its line are the script's too, wherever the program ends so; a signal is status 2."""
-        for script, words, _, _, _ in self.answers(most=1):
-            for command in ("solve", "verify")[script == "explain" :]:
-                at = lambda ends: self.program(f'[ "$1" != {command} ] || {{ {ends}; }}\nexec {common.PROGRAM} "$@"')
-                for status in (2, 5, 126, 255):
-                    program = at(f'echo "pgboard: {status}" >&2; exit {status}')
-                    self.assertEqual(self.run_script(script, words, program), (status, "", f"pgboard: {status}\n"))
-                for number in (signal.SIGINT, signal.SIGKILL):
-                    program = at(f"kill -{int(number)} $$")
-                    wanted = 2, "", f"{script}: {program} was ended by signal {int(number)}\n"
-                    self.assertEqual(self.run_script(script, words, program), wanted)
+        for case, (script, words, _, _, _) in self.answers(most=1):
+            with case:
+                for command in ("solve", "verify")[script == "explain" :]:
+                    at = lambda ends: self.program(f'[ "$1" != {command} ] || {{ {ends}; }}\nexec {common.PROGRAM} "$@"')
+                    for status in (2, 5, 126, 255):
+                        program = at(f'echo "pgboard: {status}" >&2; exit {status}')
+                        self.assertEqual(self.run_script(script, words, program), (status, "", f"pgboard: {status}\n"))
+                    for number in (signal.SIGINT, signal.SIGKILL):
+                        program = at(f"kill -{int(number)} $$")
+                        wanted = 2, "", f"{script}: {program} was ended by signal {int(number)}\n"
+                        self.assertEqual(self.run_script(script, words, program), wanted)
 
     def test_a_verdict_with_the_status_of_another(self):
-        for script, words, _, _, _ in self.answers():
-            program = self.program(f'[ "$1" != verify ] || {{ echo ok; exit 1; }}\nexec {common.PROGRAM} "$@"')
-            status, out, err = self.run_script(script, words, program)
-            self.assertEqual((status, out, err.count("\n")), (2, "", 1))
-            self.assertRegex(err, f"^{script}: .*: ok with status 1\n$")
+        for case, (script, words, _, _, _) in self.answers():
+            with case:
+                program = self.program(f'[ "$1" != verify ] || {{ echo ok; exit 1; }}\nexec {common.PROGRAM} "$@"')
+                status, out, err = self.run_script(script, words, program)
+                self.assertEqual((status, out, err.count("\n")), (2, "", 1))
+                self.assertRegex(err, f"^{script}: .*: ok with status 1\n$")
 
     def test_no_program(self):
-        for script, words, _, _, _ in self.answers(most=1):
-            for path, said in ((self.folder, "Permission denied"), (self.folder / "none", "No such file or directory")):
-                self.assertEqual(self.run_script(script, words, path), (2, "", f"{script}: {path}: {said}\n"))
-            for named, said in (("/o'brien/pgboard", "PGBOARD: No closing quotation: /o'brien/pgboard"), (" ", "PGBOARD has no word")):
-                self.assertEqual(self.run_script(script, words, PGBOARD=named), (2, "", f"{script}: {said}\n"))
+        for case, (script, words, _, _, _) in self.answers(most=1):
+            with case:
+                for path, said in ((self.folder, "Permission denied"), (self.folder / "none", "No such file or directory")):
+                    self.assertEqual(self.run_script(script, words, path), (2, "", f"{script}: {path}: {said}\n"))
+                for named, said in (("/o'brien/pgboard", "PGBOARD: No closing quotation: /o'brien/pgboard"), (" ", "PGBOARD has no word")):
+                    self.assertEqual(self.run_script(script, words, PGBOARD=named), (2, "", f"{script}: {said}\n"))
 
     def start(self, command, closes="", waits="exec sleep 99", first=":", **how):
         """Starts a command that makes temporary files in a folder of its own, and runs a program that waits; and its number."""
@@ -126,11 +130,12 @@ class Ends(unittest.TestCase):
         (self.folder / "number").unlink()
 
     def test_signals(self):
-        for script, words, _, _, _ in self.answers(most=1):
-            for number in SIGNALS:
-                process, program = self.start(self.command(script, words))
-                process.send_signal(number)
-                self.check_ended(process, number, program)
+        for case, (script, words, _, _, _) in self.answers(most=1):
+            with case:
+                for number in SIGNALS:
+                    process, program = self.start(self.command(script, words))
+                    process.send_signal(number)
+                    self.check_ended(process, number, program)
 
     def test_a_signal_while_a_program_is_quiet(self):
         """It has closed its standard error, and the script waits for its end alone."""
@@ -233,7 +238,7 @@ with lib.undone(lambda: begin("first"), end):
             self.assertEqual(got, (status, "".join(f"{it}\n" for it in wanted).encode(), b""), name)
 
     def test_a_full_device(self):
-        rows = [(script, words) for script, words, _, _, _ in self.answers()]
+        rows = [(script, words) for _, (script, words, *_) in self.answers()]
         for script, words in [*rows, *((it, ["--help"]) for it in SCRIPTS), ("convert", BOTH[:1]), ("draw", BOTH[:1])]:
             with self.subTest(script, words=words), open("/dev/full", "wb") as device:
                 env = {**os.environ, "PGBOARD": shlex.quote(str(common.PROGRAM))}
@@ -242,22 +247,24 @@ with lib.undone(lambda: begin("first"), end):
                 self.assertEqual((done.returncode, said), (2, f"{script}: standard output: No space left on device\n"))
 
     def test_where_nothing_can_be_written_the_status_is_no_answer(self):
-        for script, words, _, _, _ in self.answers():
-            for unbuffered in ("", "1"):
-                with open("/dev/full", "wb") as device:
-                    env = {**os.environ, "PGBOARD": shlex.quote(str(common.PROGRAM)), "PYTHONUNBUFFERED": unbuffered}
-                    done = subprocess.run(self.command(script, words), stdout=device, stderr=device, env=env)
-                self.assertGreaterEqual(done.returncode, 2)
+        for case, (script, words, _, _, _) in self.answers():
+            with case:
+                for unbuffered in ("", "1"):
+                    with open("/dev/full", "wb") as device:
+                        env = {**os.environ, "PGBOARD": shlex.quote(str(common.PROGRAM)), "PYTHONUNBUFFERED": unbuffered}
+                        done = subprocess.run(self.command(script, words), stdout=device, stderr=device, env=env)
+                    self.assertGreaterEqual(done.returncode, 2)
 
     def test_the_answer_is_written_before_a_picture_is_made(self):
         common.write_program(self.folder / "bin" / "dot", f"#!/bin/sh\ncp {self.folder}/out {self.folder}/seen\n")
         env = {**os.environ, "PGBOARD": shlex.quote(str(common.PROGRAM)), "PYTHONUNBUFFERED": "", "PATH": f"{self.folder}/bin:{os.environ['PATH']}"}
-        for script, words, _, begins, _ in self.answers():
-            if begins != "ok\n":
-                with open(self.folder / "out", "wb") as out:
-                    command = self.command(script, [*words, "--picture", self.folder / "file.svg"])
-                    subprocess.run(command, stdout=out, stderr=subprocess.DEVNULL, env=env, check=False)
-                self.assertTrue((self.folder / "seen").read_text(encoding="ascii").startswith(begins))
+        for case, (script, words, _, begins, _) in self.answers():
+            with case:
+                if begins != "ok\n":
+                    with open(self.folder / "out", "wb") as out:
+                        command = self.command(script, [*words, "--picture", self.folder / "file.svg"])
+                        subprocess.run(command, stdout=out, stderr=subprocess.DEVNULL, env=env, check=False)
+                    self.assertTrue((self.folder / "seen").read_text(encoding="ascii").startswith(begins))
 
     def test_options_may_come_between_the_words(self):
         wanted = self.run_script("draw", ["--svg", *BOTH[:2]])
@@ -267,19 +274,20 @@ with lib.undone(lambda: begin("first"), end):
         """Where a file can't be written, or a picture can't be made, the answer has been printed."""
         for end in {end for files in FILES.values() for end in files.values()}:
             (self.folder / f"full.{end}").symlink_to("/dev/full")
-        for script, words, _, begins, _ in self.answers():
-            for flag, end in FILES[script].items():
-                _, wanted, _ = self.run_script(script, [*words, flag, self.folder / f"file.{end}"])
-                self.assertTrue(wanted.startswith(begins))
-                for path, said in ((f"no/file.{end}", "No such file or directory"), (f"full.{end}", "No space left on device")):
-                    got = self.run_script(script, [*words, flag, path])
-                    if wanted != "ok\n":
-                        self.assertEqual(got, (2, wanted, f"{script}: {path}: {said}\n"))
-            got = self.run_script(script, [*words, "--picture", "file.svg"], PATH="/no")
-            if wanted != "ok\n":
-                said = f"{script}: file.svg: no picture without Graphviz: the command dot is not on the PATH\n"
-                self.assertEqual((got[0], got[2]), (2, said))
-                self.assertTrue(got[1].startswith(begins))
+        for case, (script, words, _, begins, _) in self.answers():
+            with case:
+                for flag, end in FILES[script].items():
+                    _, wanted, _ = self.run_script(script, [*words, flag, self.folder / f"file.{end}"])
+                    self.assertTrue(wanted.startswith(begins))
+                    for path, said in ((f"no/file.{end}", "No such file or directory"), (f"full.{end}", "No space left on device")):
+                        got = self.run_script(script, [*words, flag, path])
+                        if wanted != "ok\n":
+                            self.assertEqual(got, (2, wanted, f"{script}: {path}: {said}\n"))
+                got = self.run_script(script, [*words, "--picture", "file.svg"], PATH="/no")
+                if wanted != "ok\n":
+                    said = f"{script}: file.svg: no picture without Graphviz: the command dot is not on the PATH\n"
+                    self.assertEqual((got[0], got[2]), (2, said))
+                    self.assertTrue(got[1].startswith(begins))
 
     def test_the_game_comes_before_the_answer(self):
         for script in ("modelcheck", "synthesise"):
