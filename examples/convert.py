@@ -250,8 +250,8 @@ def main(words):
         parser.add_argument(flag, action="store_true")
     given = parser.parse_args(words)
     data = bytes_of(given.input)
-    is_automaton = not given.solution and data.lstrip().startswith(b"HOA:")
-    if is_automaton and (given.min or given.odd) or given.solution and (given.min or given.odd or given.dead_ends):
+    is_automaton = data.lstrip().startswith(b"HOA:")
+    if (is_automaton or given.solution) and (given.min or given.odd) or given.solution and given.dead_ends:
         raise Refused("--min and --odd are for the text of a game, and --dead-ends for a game")
     if given.solution:
         made = solution_of(given.input, data)

@@ -438,6 +438,12 @@ class Explain(Use, unittest.TestCase):
     def test_a_verdict_that_is_none(self):
         self.check_no_verdict(EXAMPLES / "both_win.pg", EXAMPLES / "both_win.sol")
 
+    def test_a_verdict_that_is_not_so(self):
+        program = common.write_program(self.folder / "pgboard", "#!/bin/sh\necho 'not a solution: bad cycle at 0'\nexit 1\n")
+        files = self.file("game.pg", "0 1 0 1; 1 2 0 1;"), self.file("game.sol", "0 0 1; 1 0 1;")
+        got = self.run_script(*files, PGBOARD=str(program))
+        self.assertEqual(got, (2, "", "explain: no such closed walk leads through 0\n"))
+
     def test_standard_input(self):
         game, solution = (str(EXAMPLES / it) for it in ("five_continents.pg", "five_continents.wrong"))
         for path in (game, solution):

@@ -555,7 +555,7 @@ class Texts(Tests):
     def test_takes_bytes_or_str_alone(self):
         for other in (None, 5, [48], bytearray(b"0 0 0 0;"), memoryview(b"0 0 0 0;")):
             for call in (pgboard.solve_text, pgboard.tidy_text, lambda it: pgboard.verify_text(GAME, it)):
-                with self.subTest(other=other), self.assertRaises(TypeError):
+                with self.subTest(other=other), self.assertRaisesRegex(TypeError, f"^a text is bytes or str, not {type(other).__name__}$"):
                     call(other)
 
     def test_refuses_texts(self):
