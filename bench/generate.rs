@@ -52,6 +52,17 @@ fn sparse(n: u32, degree: u32, priorities: u32, seed: u64) -> Game {
         .collect()
 }
 
+/// A hundred thousand vertices, each with one or two random successors and a random priority of 31 bits.
+fn one_or_two(seed: u64) -> Game {
+    let random = &mut Random(seed);
+    (0..100_000)
+        .map(|_| {
+            let degree = 1 + random.below(2);
+            Vertex(random.below(1 << 31), random.below(2) == 1, random.different(degree, 100_000))
+        })
+        .collect()
+}
+
 /// Each of the edges with one chance of two.
 fn dense(n: u32) -> Game {
     let random = &mut Random(5);
@@ -243,7 +254,6 @@ fn sized(kind: &str, n: u32) -> Option<Game> {
         "ladder" => ladder(n, n / 4),
         "own_loops" => own_loops(n),
         "nested" => nested(n),
-        "chords" => chords(n),
         _ => return None,
     })
 }
@@ -459,6 +469,9 @@ fn game_of(name: &str) -> Option<Game> {
             return Some(game);
         }
     }
+    if let Some(seed) = name.strip_prefix("one_or_two_") {
+        return seed.parse().ok().map(one_or_two);
+    }
     Some(match name {
         "sparse_6" => sparse(n, 4, 6, 1),
         "sparse_4096" => sparse(n, 4, 4096, 2),
@@ -481,8 +494,9 @@ fn game_of(name: &str) -> Option<Game> {
         "one_own_loop_too_many" => own_loops(MOST_VERTICES + 1),
         "small_dominions" => small_dominions(n),
         "chords" => chords(n),
-        "degree_two" => sparse(30_000, 2, 30_000, 26),
         "recursive_ladder" => recursive_ladder(40),
+        "recursive_ladder_10000" => recursive_ladder(2_000),
+        "recursive_ladder_100000" => recursive_ladder(20_000),
         "simulation" => simulation(180),
         "hypercube" => hypercube(13),
         "tree_with_ways_back" => tree_with_ways_back(n),

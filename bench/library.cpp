@@ -3,40 +3,66 @@
 //
 //   solve, known    pgboard_solve, and pgboard_solve_known where nothing is known
 //   make            what pgboard_solve does before it solves: a call that is refused, after it has made the game of its arrays
-//   alone           the promotion of examples/board, which removes what it finds, and has no board
-//   one             the same promotion as a worker of examples/board/promote.cpp, which posts on a board
-//   four            the four workers of that program
 
+#include <algorithm>
+#include <cstdlib>
 #include <ctime>
+#include <fstream>
+#include <iostream>
+#include <iterator>
 
-// (what is measured is the example itself, with its main under another name)
-#define main promote_main
-#include "../examples/board/promote.cpp"
-#undef main
+#include "pgboard.hpp"
 
-static const char *const USAGE = "usage: library solve|known|make|alone|one|four GAME";
+using Numbers = std::vector<uint32_t>;
 
-static pgboard::solution alone(const Game &game)
+static const uint32_t NONE = PGBOARD_NO_CHOICE;
+static const char *const USAGE = "usage: library solve|known|make GAME";
+
+[[noreturn]] static void stop(const std::string &why)
 {
-    const std::atomic<bool> is_over{false};
-    Promotion search(game, 1, false, is_over);
-    pgboard::solution solution{std::vector<uint8_t>(game.size()), Numbers(game.size())};
-    for (Claim found = search.next(); !found.rows.empty(); found = search.next())
-        for (auto [v, choice] : found.rows) {
-            solution.winners[v] = static_cast<uint8_t>(found.player);
-            solution.choices[v] = choice;
-        }
-    return solution;
+    std::cerr << "library: " << why << "\n";
+    std::exit(2);
 }
 
-static pgboard::solution on_board(const Game &game, bool is_shared)
+struct Game : pgboard::game {
+    Numbers ids;
+
+    uint32_t size() const { return static_cast<uint32_t>(ids.size()); }
+};
+
+// The game of a text, which the library brings into one form: a line for each vertex, by rising identifier.
+static Game read(const std::string &text)
 {
-    Board board(game);
-    if (is_shared)
-        share(board, game);
-    else
-        promote(board, game, 1, false);
-    return board.finish();
+    const std::string tidy = pgboard::tidy_text(text);
+    const char *at = tidy.c_str() + tidy.find('\n');
+    auto number = [&at] {
+        char *end;
+        const uint32_t value = static_cast<uint32_t>(std::strtoul(at, &end, 10));
+        at = end + 1;
+        return value;
+    };
+    Game game;
+    for (game.starts = {0}; at[1]; game.starts.push_back(static_cast<uint32_t>(game.targets.size()))) {
+        game.ids.push_back(number());
+        game.priorities.push_back(number());
+        game.owners.push_back(static_cast<uint8_t>(number()));
+        do
+            game.targets.push_back(number());
+        while (at[-1] == ',');
+    }
+    for (uint32_t &w : game.targets)
+        w = static_cast<uint32_t>(std::lower_bound(game.ids.begin(), game.ids.end(), w) - game.ids.begin());
+    return game;
+}
+
+static std::string text_of(const Game &game, const pgboard::solution &solution)
+{
+    std::string text = "paritysol " + std::to_string(game.ids.back()) + ";\n";
+    for (uint32_t v = 0; v < game.size(); v++) {
+        text += std::to_string(game.ids[v]) + (solution.winners[v] ? " 1" : " 0");
+        text += solution.choices[v] == NONE ? ";\n" : " " + std::to_string(game.ids[solution.choices[v]]) + ";\n";
+    }
+    return text;
 }
 
 static pgboard::solution made(const Game &game)
@@ -59,10 +85,6 @@ static pgboard::solution solved(const Game &game, const std::string &mode)
         return pgboard::solve(game, {std::vector<uint8_t>(game.size(), PGBOARD_NO_WINNER), Numbers(game.size(), NONE)});
     if (mode == "make")
         return made(game);
-    if (mode == "alone")
-        return alone(game);
-    if (mode == "one" || mode == "four")
-        return on_board(game, mode == "four");
     stop(USAGE);
 }
 

@@ -13,7 +13,10 @@ sys.path.append(os.path.join(os.path.dirname(os.path.abspath(__file__)), "..", "
 
 import modelcheck
 import synthesise
-from lib import games, hoa
+from pgboard.command import write
+from pgboard.command.games import Game
+
+CONDITION = "Fin(5) & (Inf(4) | (Fin(3) & (Inf(2) | (Fin(1) & Inf(0)))))"
 
 # fixed points that alternate three deep, with priorities from 0 to 2
 FORMULA = "nu A. ([true] A && [ask] nu X. mu Y. (([fail] X && [work] Y) || (<answer> true || <ask> nu Z. (<work> Z || <fail> Y))))"
@@ -33,7 +36,7 @@ def model_of(chance, states):
 def specification_of(chance, states):
     """An automaton of six sets, of which the greater ones are rare: in each state one input says which of two outputs matters."""
     lines = ['HOA: v1\nStart: 0\nAP: 4 "i0" "i1" "o0" "o1"\ncontrollable-AP: 2 3\n']
-    lines.append(f"Acceptance: 6 {hoa.parity_formula(True, 0, 6)}\n--BODY--\n")
+    lines.append(f"Acceptance: 6 {CONDITION}\n--BODY--\n")
     for state in range(states):
         lines.append(f"State: {state}\n")
         given = chance.randrange(2)
@@ -43,19 +46,21 @@ def specification_of(chance, states):
     return "".join([*lines, "--END--\n"])
 
 
-def write(folder, name):
+def write_game(folder, name):
     kind, _, size = name.rpartition("_")
     chance, path = random.Random(name), os.path.join(folder, name)
     if kind == "modelcheck":
         formula = modelcheck.Formula("formula", FORMULA)
-        games.write(f"{path}.aut", model_of(chance, int(size) // 10))
-        rows = modelcheck.Product(modelcheck.Model(f"{path}.aut"), formula).rows
+        text = model_of(chance, int(size) // 10)
+        write(f"{path}.aut", text)
+        rows = modelcheck.Product(modelcheck.Model("model", text), formula).rows
     else:
-        games.write(f"{path}.hoa", specification_of(chance, int(size) // 6))
-        rows = synthesise.Game(hoa.Automaton(f"{path}.hoa")).rows
-    games.write(f"{path}.pg", games.game_text(rows))
+        text = specification_of(chance, int(size) // 6)
+        write(f"{path}.hoa", text)
+        rows = synthesise.Play(synthesise.Automaton("specification", text)).rows
+    write(f"{path}.pg", Game.of_rows(rows).written())
 
 
 if __name__ == "__main__":
     for wanted in sys.argv[2:]:
-        write(sys.argv[1], wanted)
+        write_game(sys.argv[1], wanted)

@@ -9,14 +9,16 @@ not. pgboard solves the game and verifies the solution. Then `true` or `false`
 is written. The size of the game is written before, to standard error.
 """
 
-from lib import games
+import lib  # noqa: F401 isort: skip
 
 import os
 import re
 import sys
 
 from lib.formulas import Formula, Labels, named
-from lib.games import Refused
+from pgboard.command import Parser, Refused, engine, pictures, progress, run, shown, write
+from pgboard.command.games import MOST_VERTICES, Game
+from pgboard.command.texts import texts_of
 
 HELP = """
 formulas, as mCRL2 writes them, from what binds least to what binds most:
@@ -50,11 +52,16 @@ status: 0 where the formula holds, 1 where it doesn't, 2 or more where
 something was refused
 """
 
-HEAD = re.compile(r"\s*des\s*\(\s*([0-9]{1,10})\s*,\s*([0-9]{1,10})\s*,\s*([0-9]{1,10})\s*\)\s*")
+HEAD = re.compile(
+    r"\s*des[^\S\n]*\([^\S\n]*([0-9]+)[^\S\n]*,[^\S\n]*([0-9]+)[^\S\n]*,[^\S\n]*([0-9]+)[^\S\n]*\)[^\S\n]*(?:\n|\Z)"
+)
+MOST_STATES = 1 << 31
 # blanks, but no line feed
 LINE = r'[^\S\n]*\([^\S\n]*([0-9]{1,10})[^\S\n]*,(?:[^\S\n]*("[^"\n]*"|[^\s",](?:[^",\n]*[^\s",])?))?[^\S\n]*,[^\S\n]*([0-9]{1,10})[^\S\n]*\)[^\S\n]*'
 TRANSITION = re.compile(LINE)
 TRANSITIONS = re.compile(f"(?m)^{LINE}$")
+# what a word may be that is meant as a file's name
+FILE_NAME = re.compile(r"[\w./~-]*(/[\w.-]+|\w\.[a-z]\w*)")
 # after so many vertices there is another line of progress
 MANY = 1 << 16
 
@@ -62,56 +69,62 @@ MANY = 1 << 16
 class Model:
     """A labelled transition system: of each state its transitions, (label, state)."""
 
-    def __init__(self, path):
-        text = games.text_of(path)
-        lines = text.split("\n")
-        first = next((at for at, line in enumerate(lines) if line.strip()), 0)
-        head = HEAD.fullmatch(lines[first])
+    def __init__(self, path, text):
+        self.path, self.text = path, text
+        head = HEAD.match(text)
         if not head:
-            raise Refused(f"{games.called(path)}:{first + 1}: not of the form: des (first state, transitions, states)")
-        self.first, count, self.states = map(int, head.groups())
-        self.check(path, first, self.first)
-        found = TRANSITIONS.findall("\n".join(lines[first + 1 :]))
-        given = sum(1 for line in lines[first + 1 :] if line and not line.isspace())
+            self.refuse(
+                "not of the form: des (first state, transitions, states)", re.search(r"\S|$", text).start()
+            )
+        self.first, count, self.states = (int(it[:99]) for it in head.groups())
+        if self.states > MOST_STATES:
+            self.refuse("too many states: at most 2147483648", head.start(3))
+        self.check(head.start(1), self.first)
+        found, rest = TRANSITIONS.findall(text, head.end()), text[head.end() :]
+        given = sum(1 for line in rest.split("\n") if line and not line.isspace())
         self.next = {}
         for state, label, to in found:
             self.next.setdefault(int(state), []).append((label[1:-1] if label[:1] == '"' else label, int(to)))
-        greatest = max((max(state, max(to for _, to in moves)) for state, moves in self.next.items()), default=0)
+        greatest = max(
+            (max(state, max(to for _, to in moves)) for state, moves in self.next.items()), default=0
+        )
         if len(found) != given or greatest >= self.states:
-            self.refuse(path, lines, first)
+            self.refuse_line(head.end())
         if count != given:
-            raise Refused(f"{games.called(path)}:{first + 1}: {count} transitions are announced, and {given} follow")
+            self.refuse(f"{count} transitions are announced, and {given} follow", head.start(2))
 
-    def refuse(self, path, lines, first):
+    def refuse(self, why, at):
+        raise Refused(why, place=(self.path, self.text, at))
+
+    def refuse_line(self, at):
         """Refuses the first line that is no transition of these states."""
-        for at, line in enumerate(lines[first + 1 :], first + 1):
+        for line in self.text[at:].split("\n"):
             found = TRANSITION.fullmatch(line)
             if found:
-                self.check(path, at, int(found[1]), int(found[3]))
+                self.check(at + found.start(1), int(found[1]))
+                self.check(at + found.start(3), int(found[3]))
             elif line.strip():
-                raise Refused(f'{games.called(path)}:{at + 1}: not of the form: (state, "label", state)')
+                self.refuse('not of the form: (state, "label", state)', at + len(line) - len(line.lstrip()))
+            at += len(line) + 1
 
-    def check(self, path, at, *states):
-        for state in states:
-            if state >= self.states:
-                raise Refused(f"{games.called(path)}:{at + 1}: there is no state {state}, since there are {self.states}, from 0")
-
-
-def progress(text):
-    """Shows a line on a terminal in place of the last one."""
-    if sys.stderr.isatty():
-        print(f"\r\x1b[K{text}", end="", file=sys.stderr, flush=True)
+    def check(self, at, state):
+        if state >= self.states:
+            self.refuse(f"there is no state {state}, since there are {self.states}, from 0", at)
 
 
 class Product:
-    """The game of a model and a formula; a vertex is a state times the number of subformulas, plus a subformula's number."""
+    """The game of a model and a formula; a vertex is a state times the number of subformulas, plus a
+    subformula's number.
+    """
 
     def __init__(self, model, formula):
         self.model, self.formula, self.count = model, formula, len(formula.parts)
         labels = Labels(label for moves in model.next.values() for label, _ in moves)
         # what the formula names and no label is; without `tau`, which a model need not have
-        leaves = [it for regular in formula.regulars for it in named(regular) if it[2] != "tau"]
-        self.unknown = dict.fromkeys(it[1] for it in leaves if not labels.taken(it))
+        leaves = [it for regular in formula.regulars for it in named(regular)]
+        self.unknown = dict.fromkeys(it[1] for it in leaves if not labels.taken(it) and it[2] != "tau")
+        # (by this name another tool writes it)
+        self.means_i = "i" in labels.all and "tau" not in labels.all and any(it[2] == "tau" for it in leaves)
         # of each modality its labels, and the states to which these lead; None of another subformula
         self.taken = [actions and labels.taken(actions) for _, _, actions, _ in formula.parts]
         known = {frozenset(taken): None for taken in self.taken if taken is not None}
@@ -131,13 +144,21 @@ class Product:
         return found
 
     def found(self):
-        """Finds the vertices that are reached, and gives for each the row (priority, owner, successors' numbers).
+        """Finds the vertices that are reached, and gives for each the row (priority, owner, successors'
+        numbers).
 
-        Where a modality has no transition, some has failed and each holds: the vertex is lost or won by staying.
+        Where a modality has no transition, some has failed and each holds: the vertex is lost or won by
+        staying.
         """
         vertices, count, numbers = self.vertices, self.count, {self.vertices[0]: 0}
         kinds = [
-            (priority, int(operator in ("&&", "[")), list(dict.fromkeys(parts)), int(operator == "<"), targets)
+            (
+                priority,
+                int(operator in ("&&", "[")),
+                list(dict.fromkeys(parts)),
+                int(operator == "<"),
+                targets,
+            )
             for (operator, priority, _, parts), targets in zip(self.formula.parts, self.targets)
         ]
         for vertex in vertices:  # which grow on the way
@@ -160,20 +181,24 @@ class Product:
 
     def check_size(self):
         progress(f"modelcheck: {len(self.vertices):,} vertices")
-        if len(self.vertices) > games.MOST_VERTICES:
+        if len(self.vertices) > MOST_VERTICES:
             progress("")
-            raise Refused(f"the game has more than {games.MOST_VERTICES:,} vertices")
+            raise Refused(f"the game has more than {MOST_VERTICES:,} vertices")
 
     @property
     def rows(self):
         """The rows of the game, with names that say state and subformula."""
         texts = self.formula.texts
-        return [(*row, f"{vertex // self.count}: {texts[vertex % self.count]}") for vertex, row in zip(self.vertices, self.moves)]
+        return [
+            (*row, f"{vertex // self.count}: {texts[vertex % self.count]}")
+            for vertex, row in zip(self.vertices, self.moves)
+        ]
 
     def evidence(self, solution):
         """The transitions that the winner's strategy reaches, whatever the opponent does, each once.
 
-        The winner of the first vertex keeps to his choices there too: in that part of the model the answer is the same.
+        The winner of the first vertex keeps to his choices there too: in that part of the model the answer
+        is the same.
         """
         winner = solution[0][0]
         reached, seen, found = [0], {0}, {}
@@ -183,7 +208,9 @@ class Product:
             to = [solution[at][1]] if owner == winner else successors
             if self.taken[part] is not None:
                 ends = {self.vertices[it] // self.count for it in to}
-                moves = [it for it in self.model.next.get(state, ()) if it[0] in self.taken[part] and it[1] in ends]
+                moves = [
+                    it for it in self.model.next.get(state, ()) if it[0] in self.taken[part] and it[1] in ends
+                ]
                 found.update(((state, *move), None) for move in moves[: 1 if owner == winner else None])
             reached.extend(it for it in to if it not in seen)
             seen.update(to)
@@ -197,59 +224,72 @@ def aldebaran(model, transitions):
 
 def draw(path, model, transitions):
     states = sorted({model.first, *(state for state, _, _ in transitions), *(to for _, _, to in transitions)})
-    lines = ["rankdir=LR", "node [shape=circle]", "first [shape=point]", f"first -> {model.first}", *map(str, states)]
-    lines += [f"{state} -> {to} [label={games.quoted(label)}]" for state, label, to in transitions]
-    games.draw(path, len(states), lines)
+    lines = [
+        "rankdir=LR",
+        "node [shape=circle]",
+        "first [shape=point]",
+        f"first -> {model.first}",
+        *map(str, states),
+    ]
+    lines += [f"{state} -> {to} [label={pictures.quoted(label)}]" for state, label, to in transitions]
+    pictures.draw(path, len(states), lines)
 
 
 def options(words):
-    parser = games.parser(__doc__, HELP)
+    parser = Parser(__doc__, HELP)
     parser.add_argument("model", metavar="MODEL.aut", help="a model; - is standard input")
-    parser.add_argument("formula", metavar="FORMULA", help="a formula, or a file of one that ends in .mcf; - is standard input")
-    parser.add_argument("--evidence", metavar="FILE", help="write the part of the model that the winner's strategy reaches")
-    parser.add_argument("--picture", metavar="FILE", type=games.picture_path, help="draw that part, in .dot, .svg, .png or .pdf")
+    parser.add_argument(
+        "formula",
+        metavar="FORMULA",
+        help="a formula, or a file of one that ends in .mcf; - is standard input",
+    )
+    parser.add_argument(
+        "--evidence", metavar="FILE", help="write the part of the model that the winner's strategy reaches"
+    )
+    parser.add_argument(
+        "--picture", metavar="FILE", type=pictures.path, help="draw that part, in .dot, .svg, .png or .pdf"
+    )
     parser.add_argument("--game", metavar="FILE", help="write the game, whose names say state and subformula")
     return parser.parse_args(words)
 
 
-def formula_of(word):
+def formula_of(word, text):
     """The formula that a word is, or that the file has which it names."""
-    if word == "-" or word.endswith(".mcf"):
-        return Formula(word, games.text_of(word))
+    if text is not None:
+        return Formula(word, text)
     try:
         return Formula("formula", word)
     except Refused as refused:
-        if os.path.isfile(word):
-            raise Refused(f"{refused}; a file has this name, and the name of a formula's file ends in .mcf") from None
+        if os.path.isfile(word) or FILE_NAME.fullmatch(word):
+            refused.args = (
+                f"{refused}; the name of a formula's file ends in .mcf, or it is - for standard input",
+            )
         raise
 
 
 def main(words):
     given = options(words)
-    if given.model == given.formula == "-":
-        raise Refused("- is standard input, which can't be two files")
-    formula = formula_of(given.formula)
-    model = Model(given.model)
-    product = Product(model, formula)
+    is_file = given.formula == "-" or given.formula.endswith(".mcf")
+    texts = texts_of(given.model, *([given.formula] if is_file else []))
+    formula = formula_of(given.formula, texts[1] if is_file else None)
+    product = Product(Model(given.model, texts[0]), formula)
     edges = sum(len(it[2]) for it in product.moves)
     print(f"modelcheck: size of the game: vertices {len(product.moves):,}, edges {edges:,}", file=sys.stderr)
     if given.game:
-        games.write(given.game, games.game_text(product.rows))
+        write(given.game, Game.of_rows(product.rows).written())
     for it in product.unknown:
-        print(f"modelcheck: the model has no label {games.shown(it)}", file=sys.stderr)
-    progress("modelcheck: solving")
-    try:
-        solution = games.solved(product.moves)
-    finally:
-        progress("")
+        print(f"modelcheck: the model has no label {shown(it)}", file=sys.stderr)
+    if product.means_i:
+        print("modelcheck: the model has no label tau: its label i may be meant", file=sys.stderr)
+    solution = engine.solved(Game.of_rows(product.moves)).solution.rows
     print("false" if solution[0][0] else "true", flush=True)
     transitions = product.evidence(solution) if given.evidence or given.picture else []
     if given.evidence:
-        games.write(given.evidence, aldebaran(model, transitions))
+        write(given.evidence, aldebaran(product.model, transitions))
     if given.picture:
-        draw(given.picture, model, transitions)
+        draw(given.picture, product.model, transitions)
     return solution[0][0]
 
 
 if __name__ == "__main__":
-    games.run("modelcheck", main)
+    run("modelcheck", main)

@@ -27,10 +27,13 @@ outputs have the names of the propositions. Its latches are the bits of the
 state, from 0.
 """
 
-from lib import aiger, games
+import lib  # noqa: F401 isort: skip
 
-from lib.games import Refused
-from lib.hoa import Automaton
+from lib import aiger
+from pgboard.command import FILE, Parser, Refused, engine, pictures, printable, run, write
+from pgboard.command.games import Game, Solution, reached
+from pgboard.command.hoa import Arena, Automaton, bits
+from pgboard.command.texts import text_of
 
 HELP = """
 example, an arbiter of two clients, and one that has to grant at once:
@@ -43,41 +46,8 @@ something was refused
 """
 
 
-def bits(value, width):
-    """A choice of so many propositions, the first one's first."""
-    return format(value, f"0{width}b") if width else ""
-
-
-class Game:
-    """The game of environment and controller. Its vertices are
-
-    ("state", q), where the environment chooses; ("edges", q, those that may follow), where the controller chooses one;
-    ("edge", priority, target), which is taken; and ("lost",), where the automaton has no edge.
-    """
-
-    def __init__(self, automaton):
-        self.automaton = automaton
-        self.outputs = automaton.controllable
-        self.inputs = [it for it in range(len(automaton.names)) if it not in self.outputs]
-        width = len(self.inputs)
-        self.given = [automaton.cube(self.inputs, bits(value, width)) for value in range(1 << width)]
-        self.after = {}
-        self.vertices, self.rows = games.reached(("state", automaton.first), self.row)
-        self.numbers = {vertex: number for number, vertex in enumerate(self.vertices)}
-
-    def row(self, vertex):
-        kind, *more = vertex
-        if kind == "edge":
-            return more[0], 0, [("state", more[1])], f"to {more[1]}"
-        if kind == "lost":
-            return 1, 0, [vertex], "no edge"
-        edges = self.automaton.edges[more[0]]
-        if kind == "edges":
-            taken = [("edge", *edges[it][1:]) for it in more[1]]
-            return 0, 0, taken or [("lost",)], f"{more[0]}, the controller"
-        # by each choice of inputs, the edges that some choice of outputs takes
-        self.after[more[0]] = [tuple(at for at, edge in enumerate(edges) if edge[0] & letters) for letters in self.given]
-        return 0, 1, [("edges", more[0], it) for it in self.after[more[0]]], f"{more[0]}, the environment"
+class Play(Arena):
+    """The game of environment and controller, and the machine of its winner."""
 
     def chosen(self, solution, *vertex):
         return self.vertices[solution[self.numbers[vertex]][1]]
@@ -86,7 +56,9 @@ class Game:
         """What the controller does in a state, for each choice of inputs: (inputs, next state, outputs)."""
         for value, after in enumerate(self.after[state]):
             taken = self.chosen(solution, "edges", state, after)[1:]
-            letters = next(edge[0] for edge in (self.automaton.edges[state][it] for it in after) if edge[1:] == taken)
+            letters = next(
+                edge[0] for edge in (self.automaton.edges[state][it] for it in after) if edge[1:] == taken
+            )
             letters &= self.given[value]
             letter = (letters & -letters).bit_length() - 1
             yield value, taken[1], "".join(str(letter >> it & 1) for it in self.outputs)
@@ -102,7 +74,9 @@ class Game:
             yield answer, to, bits(value, len(self.inputs))
 
     def machine(self, solution):
-        """The winner's machine: of each state, the first one first, the values that are read by (next state, what is written)."""
+        """The winner's machine: of each state, the first one first, the values that are read by (next state,
+        what is written).
+        """
         step = self.environment if solution[0][0] else self.controller
         machine, states, found = {}, [self.automaton.first], {self.automaton.first}
         for state in states:
@@ -120,7 +94,10 @@ def merged(machine):
     group, count = dict.fromkeys(machine, 0), 1
     while True:
         lines = {state: grouped(machine[state], group) for state in machine}
-        keys = {state: frozenset((it, frozenset(reads)) for it, reads in lines[state].items()) for state in machine}
+        keys = {
+            state: frozenset((it, frozenset(reads)) for it, reads in lines[state].items())
+            for state in machine
+        }
         numbers = {}
         group = {state: numbers.setdefault((group[state], keys[state]), len(numbers)) for state in machine}
         if len(numbers) == count:
@@ -163,20 +140,35 @@ def rows_of(machine, width):
 
 def table(rows, names, inputs, outputs):
     """A machine's text in KISS2; the first row's state is where it begins."""
-    head = [f"# {what}: {games.printable(' '.join(names[it] for it in some))}" for what, some in (("inputs", inputs), ("outputs", outputs))]
-    head += [f".i {len(inputs)}", f".o {len(outputs)}", f".p {len(rows)}", f".s {len({it[1] for it in rows})}", f".r s{rows[0][1]}"]
-    return "\n".join([*head, *(f"{read} s{state} s{to} {written}" for read, state, to, written in rows), ".e", ""])
+    head = [
+        f"# {what}: {printable(' '.join(names[it] for it in some))}"
+        for what, some in (("inputs", inputs), ("outputs", outputs))
+    ]
+    head += [
+        f".i {len(inputs)}",
+        f".o {len(outputs)}",
+        f".p {len(rows)}",
+        f".s {len({it[1] for it in rows})}",
+        f".r s{rows[0][1]}",
+    ]
+    return "\n".join(
+        [*head, *(f"{read} s{state} s{to} {written}" for read, state, to, written in rows), ".e", ""]
+    )
 
 
 def check(automaton, text, player, inputs, outputs):
-    """Reads a player's table again and judges its product with the automaton, in which the opponent alone chooses."""
+    """Reads a player's table again and judges its product with the automaton, in which the opponent alone
+    chooses.
+    """
     first, lines = None, {}
     for line in text.splitlines():
         if line.startswith(".r "):
             first = line[3:]
         elif line and line[0] not in "#.":
             read, state, to, written = line.split(" ")
-            lines.setdefault(state, []).append((automaton.cube(inputs, read), automaton.cube(outputs, written), to))
+            lines.setdefault(state, []).append(
+                (automaton.cube(inputs, read), automaton.cube(outputs, written), to)
+            )
     for state in [*lines, *(to for rows in lines.values() for _, _, to in rows if to not in lines)]:
         rows, seen = lines.get(state, []), 0
         for read, written, _ in rows:
@@ -203,10 +195,10 @@ def check(automaton, text, player, inputs, outputs):
                 successors.append(("lost",))
         return 0, 1 - player, successors, ""
 
-    _, rows = games.reached(("at", first, automaton.first), row)
-    said, _ = games.verdict(games.game_text(rows), "".join(f"{number} {player};\n" for number in range(len(rows))))
+    _, rows = reached(("at", first, automaton.first), row)
+    said = engine.verdict(Game.of_rows(rows), Solution(dict.fromkeys(range(len(rows)), (player, None))))
     if said != "ok":
-        raise Refused(f"the machine that was found fails: {said or 'no verdict'}")
+        raise Refused(f"the machine that was found fails: {said or 'no verdict'}", FILE)
 
 
 def draw(path, rows):
@@ -215,27 +207,35 @@ def draw(path, rows):
     for read, state, to, written in rows:
         arrows.setdefault((state, to), []).append(f"{read} / {written}")
     lines = ["rankdir=LR", "node [shape=circle]", "first [shape=point]", f"first -> {rows[0][1]}"]
-    lines += [f"{state} -> {to} [label={games.quoted(chr(10).join(labels))}]" for (state, to), labels in arrows.items()]
-    games.draw(path, len({it[1] for it in rows}), lines)
+    lines += [
+        f"{state} -> {to} [label={pictures.quoted(chr(10).join(labels))}]"
+        for (state, to), labels in arrows.items()
+    ]
+    pictures.draw(path, len({it[1] for it in rows}), lines)
 
 
 def main(words):
-    parser = games.parser(__doc__, HELP)
-    parser.add_argument("specification", metavar="SPEC.hoa", help="an automaton or a game; - is standard input")
+    parser = Parser(__doc__, HELP)
+    parser.add_argument(
+        "specification", metavar="SPEC.hoa", help="an automaton or a game; - is standard input"
+    )
     circuits = f"write a circuit of at most {aiger.MOST_VARIABLES} inputs and bits of state: ASCII to .aag and -, binary to .aig"
     parser.add_argument("--aiger", metavar="FILE", type=aiger.path, help=circuits)
-    parser.add_argument("--picture", metavar="FILE", type=games.picture_path, help="draw the machine, in .dot, .svg, .png or .pdf")
+    parser.add_argument(
+        "--picture", metavar="FILE", type=pictures.path, help="draw the machine, in .dot, .svg, .png or .pdf"
+    )
     parser.add_argument("--game", metavar="FILE", help="write the game")
     given = parser.parse_args(words)
-    automaton = Automaton(given.specification)
+    automaton = Automaton(given.specification, text_of(given.specification))
     if automaton.owners is not None:
         automaton.turns()
-    game = Game(automaton)
+    play = Play(automaton)
+    game = Game.of_rows(play.rows)
     if given.game:
-        games.write(given.game, games.game_text(game.rows))
-    solution = games.solved(game.rows)
-    winner, machine = solution[0][0], game.machine(solution)
-    inputs, outputs = (game.outputs, game.inputs) if winner else (game.inputs, game.outputs)
+        write(given.game, game.written())
+    solution = engine.solved(game).solution.rows
+    winner, machine = solution[0][0], play.machine(solution)
+    inputs, outputs = (play.outputs, play.inputs) if winner else (play.inputs, play.outputs)
     rows = rows_of(machine, len(inputs))
     text = table(rows, automaton.names, inputs, outputs)
     check(automaton, text, winner, inputs, outputs)
@@ -250,4 +250,4 @@ def main(words):
 
 
 if __name__ == "__main__":
-    games.run("synthesise", main)
+    run("synthesise", main)

@@ -194,8 +194,8 @@ PGBOARD_CALL
 uint32_t pgboard_solve(const struct pgboard_game *game, struct pgboard_results *results, struct pgboard_report *report);
 
 /* The same as pgboard_solve, with a bound on the recursion, which takes exponential time on some games: the answer is
- * PGBOARD_GAVE_UP if it needs more steps. A step begins a subgame. The same call on the same game needs the same number each time,
- * as tests show. The searches before the recursion have bounds of their own. */
+ * PGBOARD_GAVE_UP if it needs more steps. A step begins a subgame. Tests show when a call gives up, and that the same call on the same
+ * game needs the same number of steps each time. The searches before the recursion have bounds of their own. */
 PGBOARD_CALL
 uint32_t pgboard_solve_within(const struct pgboard_game *game, uint64_t steps, struct pgboard_results *results,
                               struct pgboard_report *report);
@@ -212,7 +212,7 @@ uint32_t pgboard_check(const struct pgboard_game *game, const struct pgboard_sol
                        struct pgboard_report *report);
 
 /* Solves a game in PGSolver's format: writes the solution's text to the front of `into`, and its size. There is no zero
- * byte at the end. PGBOARD_TEXT_BOUND(game_len) bytes suffice. Reports have the identifiers of vertices. */
+ * byte at the end. PGBOARD_TEXT_BOUND(game_len) bytes suffice, as tests show. Reports have the identifiers of vertices. */
 PGBOARD_CALL
 uint32_t pgboard_solve_text(const uint8_t *game, size_t game_len, uint8_t *into, size_t into_len, size_t *size,
                             struct pgboard_report *report);
@@ -264,7 +264,7 @@ struct pgboard_claim {
 /* A post: its entry's number, how many vertices of the claim were unsettled, and how many vertices it settles, these included. */
 struct pgboard_posted {
     uint64_t entry;
-    uint64_t rest;
+    uint64_t claimed;
     uint64_t settled;
 };
 
@@ -312,8 +312,8 @@ PGBOARD_CALL
 uint32_t pgboard_board_entry(struct pgboard_board *board, uint64_t number, struct pgboard_entry *entry, uint32_t *vertices,
                              size_t vertices_len, uint32_t *choices, size_t choices_len, struct pgboard_report *report);
 
-/* Settles all vertices that are left, by posts of worker 0 that solve as pgboard_solve does. The faults are PGBOARD_BOARD_CLOSED and
- * PGBOARD_MEMORY. */
+/* Settles all vertices that are left, by posts of worker 0. Tests show that it makes the searches of pgboard_solve. The faults are
+ * PGBOARD_BOARD_CLOSED and PGBOARD_MEMORY. */
 PGBOARD_CALL
 uint32_t pgboard_board_finish(struct pgboard_board *board, struct pgboard_report *report);
 
@@ -321,12 +321,13 @@ uint32_t pgboard_board_finish(struct pgboard_board *board, struct pgboard_report
 PGBOARD_CALL
 uint32_t pgboard_board_finish_within(struct pgboard_board *board, uint64_t steps, struct pgboard_report *report);
 
-/* Settles more of what is left, by the posts of pgboard_board_finish in the same order. A call makes one search or, after the last
- * search, takes up to `*steps` steps of the recursion. It leaves in `*steps` the number of steps that it did not take; a search takes
- * none. The answer is PGBOARD_OK once all is settled, and before that PGBOARD_GAVE_UP, which is no fault here. What is settled stays,
- * whatever the answer. The next call goes on where this one ended. If something was posted in between, or memory was refused, it
- * begins anew. So a program can do something else between two calls, or stop. The faults are PGBOARD_BOARD_CLOSED and
- * PGBOARD_MEMORY. */
+/* Settles more of what is left, by posts of worker 0; tests show that they are those of pgboard_board_finish, in the same order. A
+ * call makes one search or, after the last search, takes up to `*steps` steps of the recursion. It leaves in `*steps` the number of
+ * steps that it did not take; a search takes none. The answer is PGBOARD_OK once all is settled, and before that PGBOARD_GAVE_UP,
+ * which is no fault here. What is settled stays, whatever the answer. The next call goes on where this one ended. If a post was
+ * accepted in between, or memory was refused, it begins anew. So a program can do something else between two calls, or stop. A loop
+ * of calls with at least one step each, and finitely many accepted posts between them, ends. The faults are PGBOARD_BOARD_CLOSED
+ * and PGBOARD_MEMORY. */
 PGBOARD_CALL
 uint32_t pgboard_board_advance(struct pgboard_board *board, uint64_t *steps, struct pgboard_report *report);
 
@@ -336,8 +337,8 @@ PGBOARD_CALL
 uint32_t pgboard_board_solution(struct pgboard_board *board, struct pgboard_results *results, struct pgboard_report *report);
 
 /* Writes the solution's text of a full board, as pgboard_solve_text does. The identifiers are those of the game's text; of a game in
- * arrays they are the vertices. PGBOARD_TEXT_BOUND(game_len) bytes suffice for a text's game. The faults are PGBOARD_BOARD_CLOSED,
- * PGBOARD_BOARD_UNSETTLED, PGBOARD_CAPACITY and PGBOARD_MEMORY. */
+ * arrays they are the vertices. PGBOARD_TEXT_BOUND(game_len) bytes suffice for a text's game, as tests show. The faults are
+ * PGBOARD_BOARD_CLOSED, PGBOARD_BOARD_UNSETTLED, PGBOARD_CAPACITY and PGBOARD_MEMORY. */
 PGBOARD_CALL
 uint32_t pgboard_board_solution_text(struct pgboard_board *board, uint8_t *into, size_t into_len, size_t *size,
                                      struct pgboard_report *report);

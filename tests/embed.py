@@ -52,7 +52,7 @@ TYPES = {
     "&mut [u32]": "uint32_t *",
     "&mut usize": "size_t *",
     "&mut u64": "uint64_t *",
-    "&Arrays": "const struct pgboard_game *",
+    "&GameArrays": "const struct pgboard_game *",
     "&SolutionArrays": "const struct pgboard_solution *",
     "&mut Results": "struct pgboard_results *",
     "&mut Report": "struct pgboard_report *",

@@ -32,6 +32,7 @@ TOOLS = {
     "berkeley-abc": ("berkeley-abc", "berkeley-abc"),
     "mypy": ("mypy", "mypy"),
     "valgrind": ("valgrind", "valgrind"),
+    "zstd": ("zstd", "zstd"),
     "man": ("man", "man-db"),
     "fish": ("fish", "fish"),
     "zsh": ("zsh", "zsh"),

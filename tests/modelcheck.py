@@ -1,9 +1,10 @@
 #!/usr/bin/env python3
 """Tests of examples/modelcheck.py: tests/modelcheck.py [PROGRAM] [-k WORD]
 
-Its answers are compared with an evaluation of formulas by iterating sets, on random models, and with known answers on models of
-protocols. The evaluation takes nothing of the script: what a regular modality goes along is a relation of states, of which
-compositions and closures are taken. The rest is evidence, games and pictures.
+Its answers are compared with an evaluation of formulas by iterating sets, on random models, and with known
+answers on models of protocols. The evaluation takes nothing of the script: what a regular modality goes
+along is a relation of states, of which compositions and closures are taken. The rest is evidence, games and
+pictures.
 """
 
 import dataclasses
@@ -12,6 +13,7 @@ import random
 import re
 import shlex
 import sys
+import time
 import unittest
 import unittest.mock
 import xml.etree.ElementTree
@@ -74,7 +76,9 @@ class Formula:
 def next_formula(chance, depth, names, kinds):
     """A random formula of these variables, with these kinds of fixed points inside each other."""
     if kinds and chance.random() < 0.6:
-        return fixed_point(kinds[0], f"X{len(kinds)}", next_formula(chance, depth, [*names, f"X{len(kinds)}"], kinds[1:]))
+        return fixed_point(
+            kinds[0], f"X{len(kinds)}", next_formula(chance, depth, [*names, f"X{len(kinds)}"], kinds[1:])
+        )
     if depth == 0 and names and chance.random() < 0.8:
         name = chance.choice(names)
         return Formula(name, lambda model, sets: sets[name])
@@ -90,12 +94,17 @@ def next_formula(chance, depth, names, kinds):
 
 def joined(left, sign, right):
     combine = set.intersection if sign == "&&" else set.union
-    return Formula(f"({left.text} {sign} {right.text})", lambda model, sets: combine(left.holds(model, sets), right.holds(model, sets)))
+    return Formula(
+        f"({left.text} {sign} {right.text})",
+        lambda model, sets: combine(left.holds(model, sets), right.holds(model, sets)),
+    )
 
 
 @dataclasses.dataclass
 class Regular:
-    """A text that a modality may have in its brackets, how strongly it binds, and of a model the pairs of states that it joins."""
+    """A text that a modality may have in its brackets, how strongly it binds, and of a model the pairs of
+    states that it joins.
+    """
 
     text: str
     binds: int
@@ -112,7 +121,12 @@ CHOICE, SEQUENCE, REPEATED, IMPLIES, OR, AND, NOT = range(7)
 
 
 def labelled(text, binds, labels):
-    return Regular(text, binds, lambda model: {(state, to) for state, it, to in model.transitions if it in labels}, labels)
+    return Regular(
+        text,
+        binds,
+        lambda model: {(state, to) for state, it, to in model.transitions if it in labels},
+        labels,
+    )
 
 
 def next_actions(chance, depth):
@@ -127,7 +141,11 @@ def next_actions(chance, depth):
     binds, sign = chance.choice([(IMPLIES, "=>"), (OR, "||"), (AND, "&&")])
     # an implication binds to the right, and the others associate
     text = f"{left.inside(binds + (binds == IMPLIES), chance)} {sign} {right.inside(binds, chance)}"
-    kinds = {"=>": (set(LABELS) - left.labels) | right.labels, "||": left.labels | right.labels, "&&": left.labels & right.labels}
+    kinds = {
+        "=>": (set(LABELS) - left.labels) | right.labels,
+        "||": left.labels | right.labels,
+        "&&": left.labels & right.labels,
+    }
     return labelled(text, binds, kinds[sign])
 
 
@@ -139,7 +157,11 @@ def next_regular(chance, depth):
     if chance.random() < 0.5:
         is_star = chance.random() < 0.5
         same = lambda model: {(state, state) for state in model.states} if is_star else set()
-        return Regular(left.inside(REPEATED, chance) + "+*"[is_star], REPEATED, lambda model: closed(left.pairs(model)) | same(model))
+        return Regular(
+            left.inside(REPEATED, chance) + "+*"[is_star],
+            REPEATED,
+            lambda model: closed(left.pairs(model)) | same(model),
+        )
     right = next_regular(chance, depth - 1)
     if chance.random() < 0.5:
         text = f"{left.inside(CHOICE, chance)} + {right.inside(SEQUENCE, chance)}"
@@ -191,10 +213,15 @@ def drawn(seed):
     """A random model and a formula, which mostly holds in some states and not in others."""
     chance = random.Random(seed)
     count = chance.randint(2, 9)
-    rows = {(chance.randrange(count), chance.choice(LABELS), chance.randrange(count)) for _ in range(chance.randint(count, 4 * count))}
+    rows = {
+        (chance.randrange(count), chance.choice(LABELS), chance.randrange(count))
+        for _ in range(chance.randint(count, 4 * count))
+    }
     model = Model(chance.randrange(count), count, sorted(rows))
     for _ in range(20):
-        formula = next_formula(chance, chance.randint(2, 5), [], [("mu", "nu")[(at + seed) % 2] for at in range(seed % 5)])
+        formula = next_formula(
+            chance, chance.randint(2, 5), [], [("mu", "nu")[(at + seed) % 2] for at in range(seed % 5)]
+        )
         if 0 < len(formula.holds(model, {})) < count:
             break
     return model, formula
@@ -235,7 +262,9 @@ def random_regular(chance, depth, is_set=False):
 def random_tree(chance, depth):
     """A random formula as the reader gives it, without places."""
     if depth == 0 or chance.random() < 0.1:
-        return chance.choice([("true",), ("false",), ("variable", chance.choice(["X", "Y_1", "Z'", "nu_", "andy"]))])
+        return chance.choice(
+            [("true",), ("false",), ("variable", chance.choice(["X", "Y_1", "Z'", "nu_", "andy"]))]
+        )
     part = lambda: random_tree(chance, depth - 1)
     operator = chance.choice([*BINDS, *BINDS, "!", "<", "[", "mu", "nu"])
     if operator in BINDS:
@@ -259,12 +288,18 @@ def regular_tokens(tree, binds=0):
         found = [*regular_tokens(parts[0], own), "*" if operator == "*" else "+"]
     else:
         from_right = operator in (".", "=>")
-        found = [*regular_tokens(parts[0], own + from_right), operator, *regular_tokens(parts[1], own + (not from_right))]
+        found = [
+            *regular_tokens(parts[0], own + from_right),
+            operator,
+            *regular_tokens(parts[1], own + (not from_right)),
+        ]
     return ["(", *found, ")"] if own < binds else found
 
 
 def formula_tokens(tree, binds=0, is_last=True):
-    """The tokens of a formula likewise. Only where nothing follows inside its brackets does a fixed point need none."""
+    """The tokens of a formula likewise. Only where nothing follows inside its brackets does a fixed point
+    need none.
+    """
     operator, *parts = tree
     if operator in ("true", "false", "variable"):
         return [*parts, operator][:1]
@@ -310,12 +345,16 @@ class ModelCheck(scripts.Use, unittest.TestCase):
 
     def setUp(self):
         super().setUp()
-        self.model, self.evidence, self.game = (self.folder / it for it in ("model.aut", "evidence.aut", "game.pg"))
+        self.model, self.evidence, self.game = (
+            self.folder / it for it in ("model.aut", "evidence.aut", "game.pg")
+        )
         self.model.write_text(scripts.MODEL, encoding="ascii")
 
     def check(self, path, formula, expected, *words):
         """That the script says so of a formula."""
-        self.assertEqual(self.call(path, formula, *words), (int(not expected), f"{str(expected).lower()}\n"), formula)
+        self.assertEqual(
+            self.call(path, formula, *words), (int(not expected), f"{str(expected).lower()}\n"), formula
+        )
 
     def test_random_models(self):
         answers = []
@@ -325,7 +364,8 @@ class ModelCheck(scripts.Use, unittest.TestCase):
                 self.model.write_text(model.text, encoding="ascii")
                 answers.append(model.first in formula.holds(model, {}))
                 self.check(self.model, formula.text, answers[-1], "--evidence", self.evidence)
-                # the evidence is a part of the model, from its first state on, in which the answer is the same
+                # the evidence is a part of the model, from its first state on, in which the answer is the
+                # same
                 text = self.evidence.read_text(encoding="ascii")
                 part = model.part(text)
                 self.assertEqual(text, part.text)
@@ -367,7 +407,17 @@ class ModelCheck(scripts.Use, unittest.TestCase):
 
     def test_labels(self):
         """An action takes the labels that differ in blanks beside signs, and in the order of what | joins."""
-        labels = ["a", "a b", "ab", "c(1,f(x|y))|b|a", "a|b|c(1, f(x | y))", "b|c(1,f(y|x))|a", "d(x mod y)", "d(x  mod y)", "d(xmody)"]
+        labels = [
+            "a",
+            "a b",
+            "ab",
+            "c(1,f(x|y))|b|a",
+            "a|b|c(1, f(x | y))",
+            "b|c(1,f(y|x))|a",
+            "d(x mod y)",
+            "d(x  mod y)",
+            "d(xmody)",
+        ]
         for formula, taken in {
             "ab": ["ab"],
             '"a b"': ["a b"],
@@ -395,7 +445,9 @@ class ModelCheck(scripts.Use, unittest.TestCase):
         self.assertEqual(len(calls), count + actions)
 
     def test_actions_that_no_label_is(self):
-        """A line says so, but not of tau, nor where the action stands under a negation alone. The answer is the same."""
+        """A line says so, but not of tau, nor where the action stands under a negation alone. The answer is
+        the same.
+        """
         for formula, expected, unknown in (
             ("[true*.entre] false", True, ["entre"]),
             ("<!entre> true", True, []),
@@ -405,22 +457,42 @@ class ModelCheck(scripts.Use, unittest.TestCase):
             ("<(entre => b) => a> true", True, ["entre"]),
             ("!<entre> true", True, ["entre"]),
             ("[tau] false && [true] true && [false] true", True, []),
-            ("<!entre> true && [entre+.entre.x|y] [\"b c\"] false", True, ["entre", "x|y", '"b c"']),
+            ("[i] false && <!tau> true", True, ["i"]),
+            ('<!entre> true && [entre+.entre.x|y] ["b c"] false', True, ["entre", "x|y", '"b c"']),
             ('<a."a"> true && <"a".a> true', True, []),
         ):
             with self.subTest(formula):
                 status, out, err = self.run_script(self.model, formula)
                 self.assertEqual((status, out), (int(not expected), f"{str(expected).lower()}\n"))
-                self.assertEqual(err.splitlines()[1:], [f"modelcheck: the model has no label {it}" for it in unknown])
+                self.assertEqual(
+                    err.splitlines()[1:], [f"modelcheck: the model has no label {it}" for it in unknown]
+                )
+
+    def test_tau_where_the_model_has_i(self):
+        """A warning says so where a formula names tau, unless the model has that label too."""
+        warning = "modelcheck: the model has no label tau: its label i may be meant"
+        for labels, formula, is_warned in (
+            ("i", "<tau> true", True),
+            ("ia", "[a] true && [!tau] false", False),
+            ("a", "<tau> true", False),
+        ):
+            self.model.write_text(Model(0, 1, [(0, it, 0) for it in labels]).text, encoding="ascii")
+            self.assertEqual(
+                self.run_script(self.model, formula)[2].splitlines()[1:], [warning] * is_warned + []
+            )
+        self.model.write_text(Model(0, 1, [(0, "i", 0), (0, "tau", 0)]).text, encoding="ascii")
+        self.assertEqual(self.run_script(self.model, "<tau> true")[1:], ("true\n", SIZE.format(2, 2)))
 
     def test_the_name_of_a_formulas_file(self):
-        """Where a formula is refused whose text names a file, the fault says how such a file has to be called."""
-        path = self.file("always.txt", "nu X. <a> X")
-        status, out, err = self.run_script(self.model, path)
-        self.assertEqual((status, out, err.count("\n")), (2, "", 1))
-        self.assertRegex(err, "^modelcheck: formula:1:1: .*; a file has this name, and the name of a formula's file ends in .mcf\n$")
-        for formula in ("always.txt", f"{path} ", str(self.folder)):
-            self.assertNotIn("file", self.run_script(self.model, formula)[2].replace(path, ""))
+        """Where a formula is refused whose text may be a file's name, the fault says how such a file has to
+        be called.
+        """
+        said = "; the name of a formula's file ends in .mcf, or it is - for standard input\n"
+        for formula in (self.file("all ways", "nu X. <a> X"), "always.txt", "formulas/always", "./always"):
+            status, out, err = self.run_script(self.model, formula)
+            self.assertEqual((status, out, said in err), (3, "", True), err)
+        for formula in ("always.txt ", "<a.b", "a", "mu X.<a>X.", "X && Y"):
+            self.assertNotIn(said, self.run_script(self.model, formula)[2])
 
     def test_known_models(self):
         rows = scripts.rows_of("known_models.txt")
@@ -435,10 +507,20 @@ class ModelCheck(scripts.Use, unittest.TestCase):
     def test_a_game_of_100_000_vertices(self):
         count, chance = 20_000, random.Random(1)
         step = lambda: chance.randint(1, 9) ** chance.randint(1, 5)
-        model = Model(0, count, [(state, chance.choice("abc"), (state + step()) % count) for state in range(count) for _ in range(2)])
+        model = Model(
+            0,
+            count,
+            [
+                (state, chance.choice("abc"), (state + step()) % count)
+                for state in range(count)
+                for _ in range(2)
+            ],
+        )
         self.model.write_text(model.text, encoding="ascii")
         x, y = Formula("X", lambda _, sets: sets["X"]), Formula("Y", lambda _, sets: sets["Y"])
-        move = lambda is_some, text, inner: modality(is_some, labelled(text, NOT, set("abc") if text == "true" else {text}), inner)
+        move = lambda is_some, text, inner: modality(
+            is_some, labelled(text, NOT, set("abc") if text == "true" else {text}), inner
+        )
         left = joined(move(True, "a", x), "||", move(False, "b", y))
         body = joined(joined(left, "&&", move(True, "true", y)), "||", move(False, "c", x))
         for outer, inner in (("nu", "mu"), ("mu", "nu")):
@@ -482,7 +564,10 @@ class ModelCheck(scripts.Use, unittest.TestCase):
             "6 0 0 0 \"1: <'a'> X\"",
             '7 0 1 7 "1: [!a] false"',
         ]
-        self.assertEqual(self.game.read_text(encoding="utf-8"), "parity 7;\nstart 0;\n" + "".join(f"{it};\n" for it in rows))
+        self.assertEqual(
+            self.game.read_text(encoding="utf-8"),
+            "parity 7;\nstart 0;\n" + "".join(f"{it};\n" for it in rows),
+        )
 
     def test_forms_of_a_model(self):
         for text in (
@@ -502,37 +587,51 @@ class ModelCheck(scripts.Use, unittest.TestCase):
         self.check_standard_input(str(self.model), str(self.model), "<a.a> true")
         formula = self.file("always.mcf", "nu X.\n (<a> X\n")
         status, out, err = self.run_script(self.model, formula)
-        self.assertEqual((status, out), (2, ""))
-        self.assertTrue(err.startswith(f"modelcheck: {formula}:2:8: expected ), found the end of the text"), err)
+        self.assertEqual((status, out), (3, ""))
+        self.assertTrue(
+            err.startswith(f"{formula}:2:8: expected ), found the end of the text"), err
+        )
 
     def test_bytes_of_other_encodings(self):
         self.model.write_bytes(b'des (0, 1, 1)\n(0, "\xe9\xff", 0)\n')
-        self.assertEqual(self.run_script(self.model, "nu X. <true> X", "--evidence", self.evidence)[:2], (0, "true\n"))
+        self.assertEqual(
+            self.run_script(self.model, "nu X. <true> X", "--evidence", self.evidence)[:2], (0, "true\n")
+        )
         self.assertEqual(self.evidence.read_bytes(), self.model.read_bytes())
 
     def test_damaged_texts(self):
-        self.check_damaged(lambda it: self.call(self.model, it), 'nu X. (mu Y. <a> Y || ["b c"] !X => <!a> X) && [true] false')
+        self.check_damaged(
+            lambda it: self.call(self.model, it),
+            'nu X. (mu Y. <a> Y || ["b c"] !X => <!a> X) && [true] false',
+        )
         mutex = common.text_of(MODELS, "mutex.aut")
-        self.check_damaged(lambda it: self.call(self.file("model.aut", it), "mu X. (<true> true && [a] X)"), mutex)
+        self.check_damaged(
+            lambda it: self.call(self.file("model.aut", it), "mu X. (<true> true && [a] X)"), mutex
+        )
 
     def test_a_solution_that_is_refused(self):
         """What `solve` writes is believed only where `verify` takes it."""
-        liar = self.file("liar", f'#!/bin/sh\n[ "$1" != verify ] || {{ echo "not a solution"; exit 1; }}\nexec {common.PROGRAM} "$@"\n')
+        liar = self.file(
+            "liar",
+            f'#!/bin/sh\n[ "$1" != verify ] || {{ echo "not a solution"; exit 1; }}\nexec {common.PROGRAM} "$@"\n',
+        )
         os.chmod(liar, 0o755)
         said = "modelcheck: what pgboard solved was refused: not a solution\n"
-        self.assertEqual(self.run_script(self.model, "true", PGBOARD=liar), (2, "", SIZE.format(1, 1) + said))
+        self.assertEqual(self.run_script(self.model, "true", PGBOARD=liar), (4, "", SIZE.format(1, 1) + said))
         self.check_no_verdict(self.model, "true")
 
     def test_progress_on_a_terminal(self):
         """The line of progress is replaced, and the size and the answer stay; a pipe gets no progress."""
         command = [sys.executable, "-B", scripts.EXAMPLES / "modelcheck.py", self.model, "[true*] <a> true"]
-        ran, said = common.at_terminal(command, env={**os.environ, "PGBOARD": shlex.quote(str(common.PROGRAM))})
+        ran, said = common.at_terminal(
+            command, env={**os.environ, "PGBOARD": shlex.quote(str(common.PROGRAM))}
+        )
         shown = said.decode()
         self.assertEqual((ran.returncode, ran.stdout), (0, b"true\n"))
         lines = [line.rpartition("\r\x1b[K")[2].rstrip("\r") for line in shown.split("\n")]
         self.assertRegex(lines[0], r"^modelcheck: size of the game: vertices \d+, edges \d+$")
         self.assertEqual(lines[1:], [""])
-        self.assertRegex(shown, r"(?s)\x1b\[Kmodelcheck: [\d,]+ vertices\r.*\x1b\[Kmodelcheck: solving\r")
+        self.assertRegex(shown, r"(?s)\x1b\[Kmodelcheck: [\d,]+ vertices\r")
 
     def test_a_picture_spells_what_does_not_print(self):
         self.model.write_bytes(b'des (0, 1, 1)\n(0, "a\x01b", 0)\n')
@@ -543,7 +642,7 @@ class ModelCheck(scripts.Use, unittest.TestCase):
     def test_many_blanks_take_little_time(self):
         def refuse(count):
             self.model.write_text(f"des (0, 1, 1)\n(0,{' ' * count}x\n", encoding="ascii")
-            with self.assertRaisesRegex(self.script.Refused, ":2: not of the form"):
+            with self.assertRaisesRegex(self.script.Refused, ":2:1: not of the form"):
                 self.call(self.model, "true")
 
         # (cubic time is found at the first size, and quadratic time at the second)
@@ -551,18 +650,27 @@ class ModelCheck(scripts.Use, unittest.TestCase):
             self.check_growth(refuse, size)
 
     def test_what_is_too_large(self):
-        status, out, err = self.run_script(self.model, "(" * 5000 + "true" + ")" * 5000)
-        self.assertEqual((status, out), (2, ""))
-        self.assertRegex(err, r"\Amodelcheck: formula:1:[0-9]{3,4}: nested too deeply\n\Z")
+        for formula in ("(" * 5000 + "true" + ")" * 5000, f"[true{'*' * 100_000}] false"):
+            begun = time.monotonic()
+            status, out, err = self.run_script(self.model, formula)
+            self.assertEqual((status, out), (3, ""))
+            self.assertRegex(err, r"\Aformula:1:[0-9]{1,6}: nested too deeply\n  .{1,100}\n *\^\n\Z")
+            self.assertLess(time.monotonic() - begun, 10)
         # (a chain is no nesting: a test has a tenth of the script's frames)
         for operator in ("&&", "||"):
-            self.assertEqual(len(self.script.Formula("formula", f" {operator} ".join(["true"] * 1500)).parts), 2999)
-        self.model.write_text(Model(0, 9, [(state, "a", state + 1) for state in range(8)]).text, encoding="ascii")
+            self.assertEqual(
+                len(self.script.Formula("formula", f" {operator} ".join(["true"] * 1500)).parts), 2999
+            )
+        self.model.write_text(
+            Model(0, 9, [(state, "a", state + 1) for state in range(8)]).text, encoding="ascii"
+        )
         self.check(self.model, "nu X. [a] X", True)
-        with unittest.mock.patch.object(self.script.games, "MOST_VERTICES", 17):
+        with unittest.mock.patch.object(self.script, "MOST_VERTICES", 17):
             with self.assertRaisesRegex(self.script.Refused, "the game has more than 17 vertices"):
                 self.call(self.model, "nu X. [a] X")
-        self.model.write_text(Model(0, 201, [(state, "a", state + 1) for state in range(200)]).text, encoding="ascii")
+        self.model.write_text(
+            Model(0, 201, [(state, "a", state + 1) for state in range(200)]).text, encoding="ascii"
+        )
         with self.assertRaisesRegex(self.script.Refused, "201 vertices are too many"):
             self.call(self.model, "mu X. [a] X", "--picture", self.folder / "p.dot")
 
@@ -570,20 +678,29 @@ class ModelCheck(scripts.Use, unittest.TestCase):
         """The winner needs one of the transitions to the same state, and the other player may take each."""
         model = Model(0, 2, [(0, "a", 1), (0, "b", 1)])
         self.model.write_text(model.text, encoding="ascii")
-        for formula, labels in (("<true> true", "a"), ("<b> true", "b"), ("[true] true", "ab"), ("[b] true", "b")):
+        for formula, labels in (
+            ("<true> true", "a"),
+            ("<b> true", "b"),
+            ("[true] true", "ab"),
+            ("[b] true", "b"),
+        ):
             self.check(self.model, formula, True, "--evidence", self.evidence)
             found = model.part(self.evidence.read_text(encoding="ascii")).transitions
             self.assertEqual(sorted(found), [(0, label, 1) for label in labels])
 
     def test_evidence_and_pictures_of_waiting(self):
-        """The other is let in again and again, which is the only way to wait for ever; the pages show the picture."""
+        """The other is let in again and again, which is the only way to wait for ever; the pages show the
+        picture.
+        """
         words = [MODELS / "mutex.aut", WAITING]
         self.check(*words, False, "--evidence", self.evidence)
         cycle = [(0, "ask_1", 1), (1, "ask_2", 3), (3, "enter_2", 7), (7, "leave_2", 1)]
         self.assertEqual(self.evidence.read_text(encoding="ascii"), Model(0, 8, cycle).text)
         self.check_picture(words, "first -> 0", '0 -> 1 [label="ask_1"]', '7 -> 1 [label="leave_2"]')
         for end in ("dot", "svg"):
-            scripts.check_kept(self, f"waiting.{end}", (self.folder / f"picture.{end}").read_text(encoding="utf-8"))
+            scripts.check_kept(
+                self, f"waiting.{end}", (self.folder / f"picture.{end}").read_text(encoding="utf-8")
+            )
 
 
 if __name__ == "__main__":

@@ -334,6 +334,8 @@ class Packaged(unittest.TestCase):
         env.update(PGBOARD_PROGRAM=str(self.program), PGBOARD_POSTS="3000")
         said = done(self.folder / "venv/bin/python", "-m", "unittest", *(it.stem for it in tests), cwd=self.folder / "python", env=env)
         self.assertRegex(said, r"(?m)^Ran [1-9]\d\d tests")
+        said = done(self.folder / "venv/bin/python", "-m", "pgboard", "solve", common.ROOT / "examples" / "both_win.pg", env=env)
+        self.assertEqual(said, "paritysol 1;\n0 0 0;\n1 1 1;\n")
 
     def test_the_wheel_lists_its_files_with_their_sums(self):
         (record,) = (it for it in self.in_wheel if it.endswith(".dist-info/RECORD"))
@@ -345,7 +347,7 @@ class Packaged(unittest.TestCase):
         files = {it: data for it, data in self.in_wheel.items() if ".dist-info/" not in it}
         about = {it.split("/", 1)[1]: data for it, data in self.in_wheel.items() if ".dist-info/" in it}
         names = self.tree.git("ls-files", "bindings/python/pgboard").split()
-        wanted = {f"pgboard/{it.rpartition('/')[2]}": (common.ROOT / it).read_bytes() for it in names}
+        wanted = {it.partition("bindings/python/")[2]: (common.ROOT / it).read_bytes() for it in names}
         wanted["pgboard/libpgboard.so"] = (self.unpacked / "lib" / "libpgboard.so").read_bytes()
         self.assertEqual(files, wanted)
         for name in ("LICENSE", "NOTICES", "PROVENANCE"):
@@ -390,9 +392,18 @@ class Packaged(unittest.TestCase):
             self.assertEqual((self.root / debian).read_bytes(), wanted)
 
     def test_headers_pages_and_examples_are_those_of_the_tree(self):
-        for name in self.tree.git("ls-files", "include", "examples", "docs/*.md", "docs/pictures", "README.md", "LICENSE", "CHANGELOG.md").split():
+        names = "include", "examples", "bindings/python/pgboard", "docs/*.md", "docs/pictures", "README.md", "LICENSE", "CHANGELOG.md"
+        for name in self.tree.git("ls-files", *names).split():
             path = name if name.startswith("include/") else f"share/doc/pgboard/{name}"
             self.assertEqual((self.unpacked / path).read_bytes(), (common.ROOT / name).read_bytes(), name)
+
+    def test_an_example_and_the_command_of_the_folder_run(self):
+        doc = self.unpacked / "share/doc/pgboard"
+        env = {"PATH": f"{self.unpacked}/bin:/usr/bin:/bin"}
+        model = [doc / "examples/modelcheck.py", doc / "examples/modelcheck/mutex.aut", "<ask_1> true"]
+        self.assertEqual(done("python3", "-B", *model, env=env), "modelcheck: size of the game: vertices 2, edges 2\ntrue\n")
+        solve = [doc / "bindings/python/pgboard", "solve", doc / "examples/both_win.pg"]
+        self.assertEqual(done("python3", "-B", *solve, env=env), "paritysol 1;\n0 0 0;\n1 1 1;\n")
 
     def test_licences_of_what_is_linked_in_are_named(self):
         folder = self.unpacked / "share/doc/pgboard"
@@ -468,7 +479,7 @@ class Packaged(unittest.TestCase):
             "pgboard": {"usr/bin/pgboard", "usr/share/man/man1/pgboard.1.gz", *(debian for _, debian in COMPLETIONS.values())},
             "libpgboard0": {f"{library}.so.0", f"{library}.so.{self.version}"},
             "libpgboard-dev": development | manual,
-            "python3-pgboard": {f"{python}/{it.rpartition('/')[2]}" for it in self.tree.git("ls-files", "bindings/python/pgboard").split()},
+            "python3-pgboard": {f"{python}/{it.partition('/pgboard/')[2]}" for it in self.tree.git("ls-files", "bindings/python/pgboard").split()},
         }
         self.assertEqual({name: self.paths(name) for name in wanted}, wanted)
         shlibs = done("dpkg-deb", "--info", next(self.dist.glob("libpgboard0_*.deb")), "shlibs").split("\n")
@@ -534,6 +545,9 @@ class Packaged(unittest.TestCase):
         env = {"PATH": "/usr/bin:/bin", "PYTHONPATH": str(self.root / "usr/lib/python3/dist-packages"), "LD_LIBRARY_PATH": str(self.root / LIBRARIES)}
         said = done("python3", "-c", "import pgboard; print(pgboard.library.LIBRARY._name, pgboard.solve([0, 1], [2, 1], [[0, 1], [1]]))", env=env)
         self.assertEqual(said, "libpgboard.so.0 ([0, 1], [0, 1])\n")
+        solve = ["-m", "pgboard", "solve", "--stats", self.root / "usr/share/doc/pgboard/examples/both_win.pg"]
+        # (only a board of the library has entries)
+        self.assertRegex(done("python3", *solve, env=env), r"(?s)\Aparitysol 1;\n0 0 0;\n1 1 1;\n.*\nentries: 2\n\Z")
         include = done("pkg-config", "--variable=includedir", "pgboard", env={**env, "PKG_CONFIG_PATH": str(self.root / LIBRARIES / "pkgconfig")}).strip()
         self.assertEqual(os.path.realpath(include), str((self.root / "usr/include").resolve()))
 

@@ -68,7 +68,8 @@ def ran(case, commands):
     """
     folder, others = common.make_folder(case), common.make_folder(case)
     (folder / "pgboard").symlink_to(common.PROGRAM)
-    shutil.copytree(common.ROOT / "examples", folder / "examples", ignore=shutil.ignore_patterns("__pycache__"))
+    for name in ("examples", "bindings/python/pgboard"):
+        shutil.copytree(common.ROOT / name, folder / name, ignore=shutil.ignore_patterns("__pycache__"))
     env = {**os.environ, "PGBOARD": shlex.quote(str(common.PROGRAM)), "TMPDIR": str(others), "PYTHONDONTWRITEBYTECODE": "1"}
     before = sorted(folder.rglob("*"))
     status, out, _ = common.run(["bash", "-uc", f"exec 2>&1\n{commands}"], timeout=300, cwd=folder, env=env)
@@ -226,7 +227,7 @@ def said_by(page):
         statuses = re.findall(r"(?m)^\.TP\n([0-9])\n(.*)$", parts["EXIT STATUS"])
         return set(commands), set(re.findall(FLAG, "\n".join(parts.values()))), statuses
     # flags of scripts, of the tests and of ./pgboard are none of the program's
-    others = r"\.py\b|bench/|tests/|\brt\b|\bsed\b|\bcurl\b|\bgit\b"
+    others = r"\.py\b|bindings/python/|bench/|tests/|\brt\b|\bsed\b|\bcurl\b|\bgit\b"
     text = "\n".join(it for it in common.text_of(page).splitlines() if not re.search(others, it))
     commands = re.findall(r"(?m)(?<!-)\bpgboard (?!\d)([a-z]+)\b(?= [\[A-Z<.`]|`|$)", text)
     statuses = re.findall(r"(?m)^\| ([0-9]) \| (.*) \|$", text)

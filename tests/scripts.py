@@ -1,4 +1,6 @@
-"""What the tests of the scripts of examples/ share: how a script is called, its pictures read back, and who wins by the definition."""
+"""What the tests of the Python package's command and of the scripts of examples/ share: how one is called,
+its pictures read back, and who wins by the definition.
+"""
 
 import contextlib
 import io
@@ -15,13 +17,15 @@ import time
 import common
 
 EXAMPLES = common.ROOT / "examples"
+BINDINGS = common.ROOT / "bindings" / "python"
 # after this folder, which has scripts of the same names
-sys.path.append(str(EXAMPLES))
-import lib
+sys.path += [str(EXAMPLES), str(BINDINGS)]
+from pgboard import command
+from pgboard.command import words as WORDS
 
-# what signals do in a script they do not do here
+# what signals do in a command they do not do here
 signal.signal(signal.SIGINT, signal.default_int_handler)
-lib.on_signals = lambda handler: None
+command.on_signals = lambda *handler: None
 WRITE = "--write" in sys.argv
 # a small model for modelcheck.py, and the parts of a specification for synthesise.py
 MODEL = 'des (0, 2, 2)\n(0, "a", 1)\n(1, "a", 0)\n'
@@ -39,15 +43,33 @@ start 0;
 
 
 def rows_of(name):
-    """The rows of a file of tests/uses, whose columns ` | ` separates; a line that begins with # is a comment."""
+    """The rows of a file of tests/uses, whose columns ` | ` separates; a line that begins with # is a
+    comment.
+    """
     lines = common.text_of("tests", "uses", name).splitlines()
-    return [[it.strip(" ") for it in re.split(r" \|(?= |$)", line, maxsplit=4)] for line in lines if not line.startswith("#")]
+    return [
+        [it.strip(" ") for it in re.split(r" \|(?= |$)", line, maxsplit=4)]
+        for line in lines
+        if not line.startswith("#")
+    ]
+
+
+def command_of(name):
+    """The first words of a script of examples/, or of a word of the package's command."""
+    script = EXAMPLES / f"{name}.py"
+    return [sys.executable, "-B", *([script] if script.exists() else [BINDINGS / "pgboard", name])]
 
 
 def called(script, words, given=b""):
-    """The status, the output and the errors of a script's main, in this process: many calls take no time to start."""
+    """The status, the output and the errors of a script's main, in this process: many calls take no time to
+    start.
+    """
     os.environ["PGBOARD"] = shlex.quote(str(common.PROGRAM))
-    out, err, before = io.TextIOWrapper(io.BytesIO(), "utf-8", "surrogateescape", newline=""), io.StringIO(), sys.stdin
+    out, err, before = (
+        io.TextIOWrapper(io.BytesIO(), "utf-8", "surrogateescape", newline=""),
+        io.StringIO(),
+        sys.stdin,
+    )
     sys.stdin = io.TextIOWrapper(io.BytesIO(given))
     try:
         with contextlib.redirect_stdout(out), contextlib.redirect_stderr(err):
@@ -59,13 +81,17 @@ def called(script, words, given=b""):
 
 
 class Use:
-    """What the tests of each script of examples/ have, beside `unittest.TestCase`."""
+    """What the tests of a script of examples/, or of a word of the package's command, have beside
+    `unittest.TestCase`.
+    """
 
-    # the script
+    # the script or word
     name = None
 
     def setUp(self):
-        self.script = common.load(EXAMPLES / f"{self.name}.py")
+        path = EXAMPLES / f"{self.name}.py"
+        self.script = common.load(path) if path.exists() else WORDS
+        self.first = [] if path.exists() else [self.name]
         self.folder = common.make_folder(self)
 
     def file(self, name, text):
@@ -74,15 +100,16 @@ class Use:
         path.write_bytes(text if isinstance(text, bytes) else text.encode())
         return str(path)
 
-    def call(self, *words):
+    def call(self, *words, given=b""):
         """The status and the output of the script's main, in this process."""
-        return called(self.script, words)[:2]
+        return called(self.script, [*self.first, *words], given)[:2]
 
     def run_script(self, *words, given=b"", **env):
         """The status, the output and the errors of the script as a process, at the top of the repository."""
-        command = [sys.executable, "-B", EXAMPLES / f"{self.name}.py", *words]
         env = {**os.environ, "PGBOARD": shlex.quote(str(common.PROGRAM)), **env}
-        status, out, err = common.run(command, given, timeout=600, cwd=common.ROOT, env=env)
+        status, out, err = common.run(
+            [*command_of(self.name), *words], given, timeout=600, cwd=common.ROOT, env=env
+        )
         return status, out.decode(errors="replace"), err.decode()
 
     def check_growth(self, call, size):
@@ -107,11 +134,17 @@ class Use:
     def check_standard_input(self, path, *words):
         """That `-` in place of the path gives the same."""
         wanted = self.run_script(*words)
-        self.assertEqual(self.run_script(*("-" if it == path else it for it in words), given=pathlib.Path(path).read_bytes()), wanted)
+        self.assertEqual(
+            self.run_script(
+                *("-" if it == path else it for it in words), given=pathlib.Path(path).read_bytes()
+            ),
+            wanted,
+        )
         self.assertIn(wanted[0], (0, 1))
 
     def check_no_verdict(self, *words, good=0):
-        """That a solution is believed only where `verify` says that it is one: neither nothing nor another word is enough.
+        """That a solution is believed only where `verify` says that it is one: neither nothing nor another
+        word is enough.
 
         So many calls of it are good, and the next one is not.
         """
@@ -119,11 +152,15 @@ class Use:
             count = self.folder / "count"
             count.write_text("x" * (good + 1), encoding="ascii")
             says = f'read count < {count}; echo "${{count#x}}" > {count}; [ "$count" != x ] || {{ printf "{said}"; exit 0; }}'
-            program = self.file("program", f'#!/bin/sh\nif [ "$1" = verify ]; then {says}; fi\nexec {common.PROGRAM} "$@"\n')
+            program = self.file(
+                "program", f'#!/bin/sh\nif [ "$1" = verify ]; then {says}; fi\nexec {common.PROGRAM} "$@"\n'
+            )
             os.chmod(program, 0o755)
             status, out, err = self.run_script(*words, PGBOARD=program)
-            self.assertEqual((status, out), (2, ""), said)
-            self.assertRegex(err, f"^({self.name}: size.*\n)?{self.name}: (what|this|the machine).*: {said or 'no'}")
+            self.assertEqual((status, out), (4, ""), said)
+            self.assertRegex(
+                err, rf"\A({self.name}: size.*\n)?\w+: (what|this|the machine).*: {said or 'no'}"
+            )
 
     def check_damaged(self, call, text):
         """That the script answers or refuses what a damaged text has, and fails in no other way."""
@@ -133,14 +170,14 @@ class Use:
                 try:
                     self.assertIn(call(given)[0], (0, 1))
                 except self.script.Refused as refused:
-                    self.assertTrue(str(refused).isprintable())
-                except self.script.games.Ended as ended:
-                    self.assertEqual((ended.status, ended.said.count("\n")), (3, 1))
+                    self.assertEqual((refused.status, str(refused).isprintable()), (3, True), refused)
 
     def check_benchmark(self, size):
         """That bench/ gets a game of about so many vertices, in which each player wins some."""
         name = f"{self.name}_{size}"
-        got = common.run([sys.executable, "-B", common.ROOT / "bench" / "uses.py", self.folder, name], timeout=600)
+        got = common.run(
+            [sys.executable, "-B", common.ROOT / "bench" / "uses.py", self.folder, name], timeout=600
+        )
         self.assertEqual((got[0], got[2]), (0, b""))
         status, winners, _ = common.program("solve", "--winners", self.folder / f"{name}.pg", timeout=600)
         lines = winners.decode().splitlines()[1:]
@@ -149,10 +186,12 @@ class Use:
         self.assertEqual({line.split()[1] for line in lines}, {"0;", "1;"})
 
     def test_help(self):
-        """The help shows an example, and has 80 columns also where the terminal has more."""
+        """The help shows an example of a script, and has 80 columns also where the terminal has more."""
         status, out, err = self.run_script("--help", COLUMNS="200")
         self.assertEqual((status, err), (0, ""))
-        self.assertIn(f"\n  examples/{self.name}.py ", out)
+        self.assertIn(
+            f"usage: python3 -m pgboard {self.name} " if self.first else f"\n  examples/{self.name}.py ", out
+        )
         self.assertLessEqual(max(map(len, out.splitlines())), 80)
 
 
@@ -161,16 +200,22 @@ def damaged(chance, text):
     for _ in range(chance.randint(1, 3)):
         first, last = sorted(chance.randint(0, len(text)) for _ in range(2))
         last = min(last, first + chance.randint(0, 9))
-        piece = chance.choice(["", text[first:last] * 2, chance.choice(text), chance.choice('()[]{}<>"!&|,;:.01 9\n\x00\u00e9')])
+        piece = chance.choice(
+            ["", text[first:last] * 2, chance.choice(text), chance.choice('()[]{}<>"!&|,;:.01 9\n\x00\u00e9')]
+        )
         text = text[:first] + piece + text[last:]
     return text
 
 
 def graph_of(text):
-    """The vertices and edges of Graphviz text, with what stands between their brackets; vertices are what has no arrow."""
+    """The vertices and edges of Graphviz text, with what stands between their brackets; vertices are what
+    has no arrow.
+    """
     rows = re.findall(r"(?ms)^    (\w+)(?: -> (\w+))?(?: \[(.*?)\])?;$", text)
     rows = [row for row in rows if row[0] not in ("graph", "node", "edge")]
-    vertices, edges = {row[0]: row[2] for row in rows if not row[1]}, {row[:2]: row[2] for row in rows if row[1]}
+    vertices, edges = {row[0]: row[2] for row in rows if not row[1]}, {
+        row[:2]: row[2] for row in rows if row[1]
+    }
     assert len(vertices) + len(edges) == len(rows), "nothing is drawn twice"
     return vertices, edges
 
@@ -181,7 +226,9 @@ def colour_of(style):
 
 
 def check_kept(case, name, made):
-    """That a picture is the one of docs/pictures; another version of Graphviz lays out the same vertices and edges in another way."""
+    """That a picture is the one of docs/pictures; another version of Graphviz lays out the same vertices and
+    edges in another way.
+    """
     path = common.ROOT / "docs" / "pictures" / name
     if WRITE:
         path.write_text(made, encoding="utf-8")
@@ -201,7 +248,9 @@ def plays(game, player):
 
 
 def winner(game, moves, id, least, odd):
-    """Who wins the play of these moves: the owner of a dead end loses, else the priority that decides on the cycle says."""
+    """Who wins the play of these moves: the owner of a dead end loses, else the priority that decides on the
+    cycle says.
+    """
     seen = []
     while id not in seen:
         seen.append(id)

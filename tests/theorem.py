@@ -23,7 +23,7 @@ import common
 CRATES = ["pg_game", "pg_text", "pg_dominion", "pg_finders", "pg_board", "pg_workers", "pgboard", "pgboard_c"]
 PAGE = common.text_of("tests/theorem.txt")
 # the parts of the headline, in the order of docs/PROVED.md
-PARTS = re.findall(r"(?m)^\| (\S[^|]*) \| ", PAGE.split("\n## Board\n")[1].split("|---|---|")[1])
+PARTS = re.findall(r"(?m)^\| (\S[^|]*) \| ", PAGE.split("\n## Board\n")[1].split("\n## ")[0].split("|---|---|")[1])
 # the definitions that the page shows first
 FIRST = set(re.findall(r"{{item (\S+)}}", PAGE))
 # modules that say how bytes spell texts, or what the tables beside a journal hold

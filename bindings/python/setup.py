@@ -1,5 +1,8 @@
 """The wheel has the library, which is of one platform and of no version of Python. pyproject.toml has all else."""
 
+import os
+import sys
+
 from setuptools import Distribution, setup
 
 try:
@@ -18,4 +21,7 @@ class Wheel(bdist_wheel):
         return "py3", "none", super().get_tag()[2]
 
 
+lacking = [it for it in ("pgboard/libpgboard.so", "LICENSE", "NOTICES", "PROVENANCE") if not os.path.exists(it)]
+if lacking:
+    sys.exit(f"pgboard: this folder lacks {', '.join(lacking)}: ./package makes the wheel, which has them")
 setup(distclass=WithLibrary, cmdclass={"bdist_wheel": Wheel})

@@ -471,7 +471,7 @@ class Boards(unittest.TestCase):
         entries = board.entries
         for v in range(5):
             self.assertEqual(len(entries), v)
-            self.assertEqual(board.post(0, {v: v}, worker=v), pgboard.Posted(entry=v, rest=1, settled=1))
+            self.assertEqual(board.post(0, {v: v}, worker=v), pgboard.Posted(entry=v, claimed=1, settled=1))
         self.assertEqual([it.worker for it in entries], [0, 1, 2, 3, 4])
         self.assertEqual([it.worker for it in reversed(entries)], [4, 3, 2, 1, 0])
         self.assertEqual([it.worker for it in entries[-2:0:-2]], [3, 1])

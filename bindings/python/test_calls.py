@@ -364,7 +364,7 @@ class Slices(Tests):
         self.addCleanup(patch.stop)
 
     def at_once(self, game, *known, steps=None):
-        groups = [[pgboard.library.own(it) for it in group] for group in (pgboard.game_views(*pgboard.arrays.game_of(*game)), *known)]
+        groups = [[pgboard.library.own(it) for it in group] for group in (pgboard.arrays.game_views(*pgboard.arrays.game_of(*game)), *known)]
         return pgboard.solving.at_once(groups, steps)
 
     def games(self, count):

@@ -398,8 +398,30 @@ class Buffers(Tests):
         self.refused(pgboard.UnknownSuccessor, 0, 2**40, pgboard.verify_csr, [0], [0], [0, 1], array("q", [2**40]), [0], [0])
         for at, name in enumerate(("owners", "priorities", "indptr", "indices")):
             for wrong in ([0, 1.5], ["0", "1"], [None]):
-                with self.assertRaisesRegex(TypeError, f"^{name}: a list of integers is needed: "):
+                place = f"{name}[{next(v for v, it in enumerate(wrong) if not isinstance(it, int))}]"
+                with self.assertRaisesRegex(TypeError, f"^{re.escape(place)} is an integer, not (float|str|NoneType)$"):
                     pgboard.solve_csr(*lists[:at], wrong, *lists[at + 1 :])
+
+    def test_arguments_that_are_no_lists_are_named(self):
+        game = [[0, 1], [2, 1], [[0, 1], [1]]]
+        for at, name in enumerate(("owners", "priorities", "successors")):
+            with self.assertRaisesRegex(TypeError, f"^{name}: a list is needed, not int$"):
+                pgboard.solve(*game[:at], 5, *game[at + 1 :])
+        for wrong, said in (
+            ((["0", 1], *game[1:]), r"owners\[0\] is an integer, not str"),
+            ((game[0], [2, None], game[2]), r"priorities\[1\] is an integer, not NoneType"),
+            ((*game[:2], [[0, 1], [1, "1"]]), r"successors\[1\]\[1\] is an integer, not str"),
+            ((*game[:2], [[0, 1], 1]), r"successors\[1\]: a list is needed, not int"),
+        ):
+            with self.assertRaisesRegex(TypeError, f"^{said}$"):
+                pgboard.solve(*wrong)
+        for known, said in ((5, "int"), ([[0, 1]], "list"), ((1, 2, 3), "tuple")):
+            for call, arguments in ((pgboard.solve, game), (pgboard.solve_csr, CSR)):
+                with self.assertRaisesRegex(TypeError, f"^known: a pair of winners and choices is needed, not {said}$"):
+                    call(*arguments, known=known)
+        for winners, choices, said in ((5, [0, 1], "winners: a list"), ([0, 1], 5, "choices: a list"), ([0, 1], [0, "1"], r"choices\[1\] is an integer")):
+            with self.assertRaisesRegex(TypeError, f"^{said}"):
+                pgboard.verify(*game, winners, choices)
 
     def matrices(self, rows, width):
         """Rows as matrices in the form csr: with the fields that SciPy's have, and SciPy's own where it is installed."""
@@ -532,14 +554,12 @@ class Texts(Tests):
     def test_names_are_any_bytes(self):
         self.assertEqual(pgboard.tidy_text(b'0 0 0 0 "\xff";'), "parity 0;\n0 0 0 0;\n")
 
-    def test_what_no_text_can_have_is_kept(self):
-        # (Python's stand-ins for bytes that are no UTF-8, as in names of files)
-        self.refused(pgboard.NoToken, 7, 0, pgboard.solve_text, "0 0 0 0\udcff;")
-        self.refused(pgboard.NoToken, 5, 0, pgboard.verify_text, "0 0 0 0;", "0 0 0\udcff;")
-        self.assertEqual(pgboard.tidy_text('0 0 0 0 "\udcff";'), "parity 0;\n0 0 0 0;\n")
-        for call in (pgboard.solve_text, pgboard.tidy_text):
-            with self.assertRaises(ValueError):
-                call('0 0 0 0 "\ud800";')
+    def test_a_str_that_utf_8_cannot_encode_is_a_value_error(self):
+        """Also where Python has made it of bytes that are no UTF-8, as names of files; bytes have any."""
+        for text in ('0 0 0 0 "\ud800";', "0 0 0 0\udcff;"):
+            for call in (pgboard.solve_text, pgboard.tidy_text, lambda it: pgboard.verify_text("0 0 0 0;", it)):
+                with self.assertRaises(UnicodeEncodeError):
+                    call(text)
 
     def test_solves_a_file(self):
         with tempfile.TemporaryDirectory() as folder:
@@ -598,16 +618,19 @@ class Package(Tests):
 
     def test_an_import_without_the_library_says_what_to_do(self):
         for path in ("/nowhere/libpgboard.so", ctypes.util.find_library("c") or "libc.so.6"):
-            run = python("import pgboard", PGBOARD_LIBRARY=path)
+            run = python("import pgboard.command\nfrom pgboard import solve", PGBOARD_LIBRARY=path)
             err = run.communicate(timeout=60)[1]
             self.assertEqual(run.returncode, 1)
             self.assertRegex(err, r"ImportError: pgboard: .*install the wheel that ./package makes, or set PGBOARD_LIBRARY")
+            # (the commands that build it are those of the page)
+            for line in re.findall(r"(?m)^(\(cd crates.*|cc -shared.*)$", pathlib.Path(HERE, "README.md").read_text(encoding="utf-8")):
+                self.assertIn(f"`{line}`", err)
 
     def test_a_library_of_another_version_is_refused(self):
         mine = pgboard.library.VERSION
         for version in (7, mine + 1, mine + 100, 10 * mine):
             other = f"class Other:\n    def __getattr__(self, name):\n        return lambda: {version}\n"
-            err = python(f"import ctypes\n{other}ctypes.CDLL = lambda path: Other()\nimport pgboard", PGBOARD_LIBRARY="other.so").communicate(timeout=60)[1]
+            err = python(f"import ctypes\n{other}ctypes.CDLL = lambda path: Other()\nimport pgboard\npgboard.solve", PGBOARD_LIBRARY="other.so").communicate(timeout=60)[1]
             self.assertIn(f"ImportError: pgboard: other.so is of version {version}, and this package of {mine}: install", err)
 
     def test_examples(self):

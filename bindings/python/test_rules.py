@@ -4,6 +4,7 @@ import argparse
 import itertools
 import pathlib
 import random
+import signal
 import sys
 import unittest
 from array import array
@@ -14,24 +15,23 @@ from test_pgboard import Tests, csr_of, random_game
 sys.path.append(str(pathlib.Path(__file__).resolve().parent.parent.parent / "tests"))
 import plain
 
-sys.path.append(str(pathlib.Path(__file__).resolve().parent.parent.parent / "examples"))
-try:
-    import convert
-except ImportError:
-    convert = None
+from pgboard.command.games import Game
+
+# what signals do in a command they do not do here
+for it in (signal.SIGINT, signal.SIGTERM, signal.SIGHUP):
+    signal.signal(it, signal.default_int_handler if it == signal.SIGINT else signal.SIG_DFL)
 
 
 def by_convert(owners, priorities, rows, dead_ends=False, least=False):
-    """The game that examples/convert.py makes, as lists."""
+    """The game that the command's `convert` makes, as lists."""
     text = "".join(f"{v} {p} {o} {','.join(map(str, row))};\n" for v, (o, p, row) in enumerate(zip(owners, priorities, rows)))
     flags = argparse.Namespace(dead_ends=dead_ends, min=least, odd=False)
-    made = b"".join(convert.Game("-", text.encode(), flags).lines()).decode()
-    lines = [line.rstrip(";").split() for line in made.splitlines()[1:]]
-    return [int(it[2]) for it in lines], [int(it[1]) for it in lines], [list(map(int, it[3].split(","))) for it in lines]
+    made = Game.of_text("-", text, flags).rows.values()
+    return [it[1] for it in made], [it[0] for it in made], [it[2] for it in made]
 
 
 class Rules(Tests):
-    """`dead_ends` and `least`: the games that examples/convert.py makes with the same flags, and the winners by the definition."""
+    """`dead_ends` and `least`: the games that the command makes with the same flags, and the winners by the definition."""
 
     def game(self, seed, has_dead_ends):
         numbers = random.Random(seed)
@@ -40,7 +40,6 @@ class Rules(Tests):
             rows = [[] if numbers.random() < 0.3 else row for row in rows]
         return owners, priorities, [sorted(set(row)) for row in rows]
 
-    @unittest.skipUnless(convert, "examples/convert.py is not here")
     def test_are_those_of_convert(self):
         for seed in range(90):
             how = [{"dead_ends": True}, {"least": True}, {"dead_ends": True, "least": True}][seed % 3]

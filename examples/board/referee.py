@@ -19,9 +19,8 @@ player's part, and what was refused, with the vertex.
 import os
 import sys
 
-HERE = os.path.dirname(os.path.abspath(__file__))
-sys.path[1:1] = [os.path.dirname(HERE), os.path.join(HERE, "..", "..", "bindings", "python")]
-import lib
+sys.path.insert(1, os.path.dirname(os.path.dirname(os.path.abspath(__file__))))
+import lib  # noqa: F401 isort: skip
 
 import contextlib
 import re
@@ -32,14 +31,22 @@ import subprocess
 import threading
 import time
 
-from lib import games
-from lib.games import PLAYERS, Refused
-
-try:
-    import pgboard
-except ImportError as error:
-    # (--help needs no library)
-    pgboard, WHY = None, str(error)
+import pgboard
+from pgboard.command import (
+    FILE,
+    WORDS,
+    Parser,
+    Refused,
+    folder,
+    on_signals,
+    printable,
+    run,
+    seconds,
+    undone,
+    write,
+)
+from pgboard.command.engine import plain
+from pgboard.command.games import PLAYERS, Solution, game_of, solution_of
 
 HELP = """
 examples:
@@ -51,47 +58,45 @@ status: 0 where all is written, 2 where something was refused
 """
 # a solver may print so many bytes; a text that pgboard takes is not longer
 MOST = 268_435_456
-NUMBER, BLANKS = "0*([0-9]{1,10})", r"[ \t\r\n]"
-LINE = re.compile(f"(?:paritysol{BLANKS}*[0-9]+|{NUMBER}{BLANKS}+0*([01])(?:{BLANKS}+{NUMBER})?)?")
 # no vertex of any game
 NO_VERTEX = -1
 COLOURS = ("#8a8a8a", "#2563a8", "#d97706", "#15803d", "#b91c1c", "#7c3aed", "#0e7490", "#a16207", "#be185d")
 WIDTH, HEIGHT, LEFT, TOP = 720, 360, 80, 20
 
 
-class Game:
-    """A game in the arrays of a board, and the identifiers of its vertices."""
+class Table:
+    """A game on a board, and the identifiers of its vertices."""
 
-    def __init__(self, text):
-        self.text = pgboard.tidy_text(text)
-        rows = [line[:-1].split(" ") for line in self.text.splitlines()[1:]]
-        self.ids = [int(row[0]) for row in rows]
-        self.number = {id: v for v, id in enumerate(self.ids)}
-        self.owners = [int(row[2]) for row in rows]
-        priorities = [int(row[1]) for row in rows]
-        self.board = pgboard.Board(self.owners, priorities, ([self.number[int(to)] for to in row[3].split(",")] for row in rows))
+    def __init__(self, game):
+        self.ids, self.text = sorted(game.rows), pgboard.tidy_text(plain(game).written())
+        self.number, rows = {id: v for v, id in enumerate(self.ids)}, [game.rows[id] for id in self.ids]
+        self.owners = [row[1] for row in rows]
+        self.board = pgboard.Board(
+            self.owners, [row[0] for row in rows], ([self.number[to] for to in row[2]] for row in rows)
+        )
 
     def is_full(self):
         return self.board.settled == len(self.ids)
 
     def parts_of(self, text):
-        """What a solver says that each player wins: a choice or None of each vertex. Choices that no winner owns are left out."""
-        parts, seen = ({}, {}), set()
-        for id, winner, choice in lines_of(text):
-            v = self.number.get(id)
-            if v is None or v in seen:
-                raise Refused(f"vertex {id} is {'not in the game' if v is None else 'written twice'}")
-            seen.add(v)
-            is_chosen = choice is not None and self.owners[v] == winner
-            parts[winner][v] = self.number.get(choice, NO_VERTEX) if is_chosen else None
+        """What a solver says that each player wins: a choice or None of each vertex. Choices that no winner
+        owns are left out.
+
+        What comes after the last semicolon is left out too, since a solver may be ended as it prints.
+        """
+        parts = {}, {}
+        for id, (winner, choice) in solution_of("output", text[: text.rfind(";") + 1] or text).rows.items():
+            if id not in self.number:
+                raise Refused(f"vertex {id} is not in the game")
+            is_chosen = choice is not None and self.owners[self.number[id]] == winner
+            parts[winner][self.number[id]] = self.number.get(choice, NO_VERTEX) if is_chosen else None
         return parts
 
     def solution_text(self):
-        winners, choices = self.board.solution()
-        lines = [f"paritysol {self.ids[-1]};\n"]
-        for id, winner, choice in zip(self.ids, winners, choices):
-            lines.append(f"{id} {winner};\n" if choice == pgboard.NO_CHOICE else f"{id} {winner} {self.ids[choice]};\n")
-        return "".join(lines)
+        rows = zip(self.ids, *self.board.solution())
+        return Solution(
+            {id: (winner, None if it == pgboard.NO_CHOICE else self.ids[it]) for id, winner, it in rows}
+        ).written()
 
     def said_of(self, refused, vertices):
         """Why the board refuses a claim of these vertices, by identifiers."""
@@ -102,26 +107,16 @@ class Game:
         place = self.ids[refused.at]
         if isinstance(refused, pgboard.Open):
             return f"{place} leaves to {self.ids[refused.to]}"
-        return f"bad cycle at {place}" if isinstance(refused, pgboard.BadCycle) else f"{place} is settled for the other player"
+        return (
+            f"bad cycle at {place}"
+            if isinstance(refused, pgboard.BadCycle)
+            else f"{place} is settled for the other player"
+        )
 
 
 def end_all(solvers):
     for it in solvers:
         it.end("ended")
-
-
-def lines_of(text):
-    """The lines of a solution's text: identifier, winner, and choice or None. What comes after the last semicolon is left out, since
-    a solver may be ended as it prints."""
-    at = 0
-    for piece in text.split(";")[:-1]:
-        line = LINE.fullmatch(piece.strip(" \t\r\n"))
-        if not line:
-            blanks = len(piece) - len(piece.lstrip())
-            raise Refused(f"line {text.count(chr(10), 0, at + blanks) + 1} is of no solution")
-        if line[1]:
-            yield int(line[1]), int(line[2]), int(line[3]) if line[3] else None
-        at += len(piece) + 1
 
 
 class Solver:
@@ -135,12 +130,21 @@ class Solver:
         return f"solver {self.worker} ({self.command})"
 
     def run(self, text, limit, folder):
-        """Runs the command until it ends or the limit in seconds is over, unless it was ended before. Returns what it has printed."""
-        paths = {"{game}": os.path.join(folder, "game.pg"), "{solution}": os.path.join(folder, f"{self.worker}.sol")}
+        """Runs the command until it ends or the limit in seconds is over, unless it was ended before.
+        Returns what it has printed.
+        """
+        paths = {
+            "{game}": os.path.join(folder, "game.pg"),
+            "{solution}": os.path.join(folder, f"{self.worker}.sol"),
+        }
         words = [re.sub(r"\{game\}|\{solution\}", lambda it: paths[it[0]], word) for word in self.words]
         writes_file = any("{solution}" in word for word in self.words)
         with contextlib.ExitStack() as open_files:
-            given = subprocess.DEVNULL if any("{game}" in word for word in self.words) else open_files.enter_context(open(paths["{game}"], "rb"))
+            given = (
+                subprocess.DEVNULL
+                if any("{game}" in word for word in self.words)
+                else open_files.enter_context(open(paths["{game}"], "rb"))
+            )
             out = subprocess.DEVNULL if writes_file else subprocess.PIPE
             with self.starting:
                 if self.why:
@@ -161,7 +165,9 @@ class Solver:
         return printed[:MOST].decode("utf-8", "replace")
 
     def printed(self):
-        """What the command prints until it ends or is ended; what it has started in a session of its own may keep the pipe open."""
+        """What the command prints until it ends or is ended; what it has started in a session of its own may
+        keep the pipe open.
+        """
         found = bytearray()
         with self.process.stdout as pipe:
             os.set_blocking(pipe.fileno(), False)
@@ -201,15 +207,17 @@ class Referee:
         self.posts = []
 
     def run(self):
-        with games.folder() as folder, lib.undone(lambda: self.solvers, end_all):
-            games.write(os.path.join(folder, "game.pg"), self.game.text)
-            threads = [threading.Thread(target=self.serve, args=(it, folder), daemon=True) for it in self.solvers]
+        with folder() as made, undone(lambda: self.solvers, end_all):
+            write(os.path.join(made, "game.pg"), self.game.text)
+            threads = [
+                threading.Thread(target=self.serve, args=(it, made), daemon=True) for it in self.solvers
+            ]
             for it in threads:
                 it.start()
             for it in threads:
                 it.join()
         # (no signal reaches Python during a call of the board)
-        lib.on_signals(signal.SIG_DFL)
+        on_signals()
         before = self.game.board.settled
         self.game.board.finish()
         self.note(0, self.game.board.settled - before)
@@ -235,7 +243,11 @@ class Referee:
             parts = self.game.parts_of(text)
         except Refused as refused:
             return str(refused)
-        said = [f"{PLAYERS[player]} {self.post(worker, player, part)}" for player, part in enumerate(parts) if part]
+        said = [
+            f"{PLAYERS[player]} {self.post(worker, player, part)}"
+            for player, part in enumerate(parts)
+            if part
+        ]
         return "; ".join(said) or "nothing is claimed"
 
     def post(self, worker, player, part):
@@ -244,14 +256,14 @@ class Referee:
         except pgboard.RefusedClaim as refused:
             return f"refused: {self.game.said_of(refused, part)}"
         self.note(worker, posted.settled)
-        return f"settled {posted.settled}, of which {posted.rest} of {len(part)} claimed"
+        return f"settled {posted.settled}, of which {posted.claimed} of {len(part)} claimed"
 
     def note(self, worker, count):
         if count:
             self.posts.append((time.monotonic() - self.begun, worker, count))
 
     def say(self, line):
-        print(f"referee: {games.printable(line)}", file=sys.stderr, flush=True)
+        print(f"referee: {printable(line)}", file=sys.stderr, flush=True)
 
     def picture(self):
         """An SVG picture: for each worker the vertices that it has settled, as a line over the seconds."""
@@ -272,13 +284,17 @@ class Referee:
                     count += settled
                     steps.append(f"H{across(seconds)}V{up(count)}")
             colour, y = COLOURS[worker % len(COLOURS)], HEIGHT + 36 + 20 * worker
-            lines.append(f'<path id="worker{worker}" d="{"".join(steps)}H{WIDTH}" fill="none" stroke="{colour}" stroke-width="2.5"/>')
-            lines.append(f'<path d="M{LEFT},{y - 4}h24" stroke="{colour}" stroke-width="2.5"/><text x="{LEFT + 32}" y="{y}">{count} {escaped(name)}</text>')
+            lines.append(
+                f'<path id="worker{worker}" d="{"".join(steps)}H{WIDTH}" fill="none" stroke="{colour}" stroke-width="2.5"/>'
+            )
+            lines.append(
+                f'<path d="M{LEFT},{y - 4}h24" stroke="{colour}" stroke-width="2.5"/><text x="{LEFT + 32}" y="{y}">{count} {escaped(name)}</text>'
+            )
         return "\n".join([*lines, "</svg>\n"])
 
 
 def escaped(text):
-    return games.printable(text).replace("&", "&amp;").replace("<", "&lt;")
+    return printable(text).replace("&", "&amp;").replace("<", "&lt;")
 
 
 def svg_path(path):
@@ -290,51 +306,47 @@ def svg_path(path):
 svg_path.__name__ = "picture (.svg)"
 
 
-def seconds(word):
-    value = float(word)
-    if not 0 < value <= threading.TIMEOUT_MAX:
-        raise ValueError
-    return value
-
-
 def main(words):
-    parser = games.parser(__doc__, HELP)
+    parser = Parser(__doc__, HELP)
     parser.add_argument("game", metavar="GAME", help="a game; - is standard input")
-    parser.add_argument("--solver", metavar="COMMAND", action="append", default=[], help="the command of a solver; there may be several")
-    parser.add_argument("--time", metavar="SECONDS", type=seconds, default=60, help="the time that each solver has (60)")
-    parser.add_argument("--picture", metavar="FILE", type=svg_path, help="draw how many vertices each solver settled, over time, in .svg")
+    parser.add_argument(
+        "--solver",
+        metavar="COMMAND",
+        action="append",
+        default=[],
+        help="the command of a solver; there may be several",
+    )
+    parser.add_argument(
+        "--time", metavar="SECONDS", type=seconds, default=60, help="the time that each solver has (60)"
+    )
+    parser.add_argument(
+        "--picture",
+        metavar="FILE",
+        type=svg_path,
+        help="draw how many vertices each solver settled, over time, in .svg",
+    )
+    parser.set_defaults(min=False, odd=False, dead_ends=None)
     given = parser.parse_args(words)
-    if not pgboard:
-        raise Refused(WHY)
     solvers = []
     for worker, command in enumerate(given.solver, 1):
         try:
             solvers.append(Solver(worker, command))
         except ValueError as error:
-            raise Refused(f"--solver {command}: {error}") from None
+            raise Refused(f"--solver {command}: {error}", WORDS) from None
         if not solvers[-1].words:
-            raise Refused("--solver: there is no command")
-    text = games.text_of(given.game)
+            raise Refused("--solver: there is no command", WORDS)
     try:
-        with games.hints((given.game, text)):
-            game = read_game(given.game, text)
-    except pgboard.OutOfMemory as error:
-        raise MemoryError from error
-    referee = Referee(game, solvers, given.time)
+        table = Table(game_of(given.game, given))
+    except ImportError as error:
+        raise Refused(str(error), FILE) from None
+    referee = Referee(table, solvers, given.time)
     referee.run()
-    sys.stdout.write(game.solution_text())
+    sys.stdout.write(table.solution_text())
     sys.stdout.flush()
     if given.picture:
-        games.write(given.picture, referee.picture())
+        write(given.picture, referee.picture())
     return 0
 
 
-def read_game(path, text):
-    try:
-        return Game(text)
-    except pgboard.Refused as refused:
-        raise Refused(f"{games.called(path)}: {refused}") from None
-
-
 if __name__ == "__main__":
-    games.run("referee", main)
+    run("referee", main)

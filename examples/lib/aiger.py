@@ -1,12 +1,14 @@
-"""Circuits of and-gates and inverters with latches, and their texts in the AIGER format (version 1.0), ASCII or binary.
+"""Circuits of and-gates and inverters with latches, and their texts in the AIGER format (version 1.0), ASCII
+or binary.
 
-A circuit is made of truth tables: one for each bit of the next state and for each output, over the bits of the state and the
-inputs. Each is made in two ways, by choices of one variable after the other and by a sum of products without redundant parts
-(Minato 1992), and the smaller circuit stays. Gates with the same inputs are one. State numbers that no state has may go anywhere.
+A circuit is made of truth tables: one for each bit of the next state and for each output, over the bits of
+the state and the inputs. Each is made in two ways, by choices of one variable after the other and by a sum
+of products without redundant parts (Minato 1992), and the smaller circuit stays. Gates with the same inputs
+are one. State numbers that no state has may go anywhere.
 """
 
-from lib import games
-from lib.games import Refused
+from pgboard import command
+from pgboard.command import Refused, printable
 
 MOST_VARIABLES = 20
 # a sum of products takes longer: only up to so many variables
@@ -14,7 +16,9 @@ MOST_OF_SUMS = 14
 
 
 class Gates:
-    """And-gates over variables. A literal is twice a number, or one more where it is inverted: 0 is false, and 1 is true."""
+    """And-gates over variables. A literal is twice a number, or one more where it is inverted: 0 is false,
+    and 1 is true.
+    """
 
     def __init__(self, variables):
         self.variables = [2 * it + 2 for it in range(variables)]
@@ -95,10 +99,14 @@ class Gates:
 
 
 class Circuit:
-    """The circuit of a machine: its literals are numbered as AIGER wants it, inputs, then latches, then gates."""
+    """The circuit of a machine: its literals are numbered as AIGER wants it, inputs, then latches, then
+    gates.
+    """
 
     def __init__(self, machine, names, inputs, outputs):
-        """`machine` has of each state, the first one first, the values that are read by (next state, bits that are written)."""
+        """`machine` has of each state, the first one first, the values that are read by (next state, bits
+        that are written).
+        """
         self.input_names, self.output_names = [names[it] for it in inputs], [names[it] for it in outputs]
         self.latches = (len(machine) - 1).bit_length()
         if self.latches + len(inputs) > MOST_VARIABLES:
@@ -111,7 +119,9 @@ class Circuit:
         self.gates, self.roots = min((self.made(way, wanted) for way in ways), key=lambda it: len(it[0]))
 
     def wanted(self, machine):
-        """Of each bit of the next state, and of each output, the least and the greatest truth table, by state and inputs."""
+        """Of each bit of the next state, and of each output, the least and the greatest truth table, by
+        state and inputs.
+        """
         number = {state: at for at, state in enumerate(machine)}
         width, size = len(self.input_names), 1 << self.latches
         columns = [[0] * size for _ in range(self.latches + len(self.output_names))]
@@ -139,7 +149,11 @@ class Circuit:
         order += [gate for gate in gates.inputs if gate in needed]
         new = {0: 0, **{old: 2 * at for at, old in enumerate(order, 1)}}
         literal = lambda old: new[old & ~1] | old & 1
-        kept = [(new[gate], *sorted(map(literal, gates.inputs[gate]), reverse=True)) for gate in order if gate in gates.inputs]
+        kept = [
+            (new[gate], *sorted(map(literal, gates.inputs[gate]), reverse=True))
+            for gate in order
+            if gate in gates.inputs
+        ]
         return kept, [literal(it) for it in roots]
 
     def head(self, word):
@@ -147,8 +161,12 @@ class Circuit:
         return f"{word} {inputs + self.latches + gates} {inputs} {self.latches} {outputs} {gates}\n"
 
     def symbols(self):
-        for letter, names in (("i", self.input_names), ("l", [f"state_{it}" for it in range(self.latches)]), ("o", self.output_names)):
-            yield from (f"{letter}{at} {games.printable(name)}\n" for at, name in enumerate(names))
+        for letter, names in (
+            ("i", self.input_names),
+            ("l", [f"state_{it}" for it in range(self.latches)]),
+            ("o", self.output_names),
+        ):
+            yield from (f"{letter}{at} {printable(name)}\n" for at, name in enumerate(names))
 
     def text(self):
         """The ASCII form."""
@@ -192,6 +210,6 @@ path.__name__ = "circuit (.aag, .aig or -)"
 def write(name, circuit):
     """Writes a circuit to a file; to none for `-`."""
     if name.endswith(".aig"):
-        games.write_bytes(name, circuit.data())
+        command.write(name, circuit.data())
     elif name != "-":
-        games.write(name, circuit.text())
+        command.write(name, circuit.text())

@@ -1,13 +1,14 @@
-"""Reads formulas of the modal mu-calculus with regular modalities, as mCRL2 writes them, and makes them games' subformulas.
+"""Reads formulas of the modal mu-calculus with regular modalities, as mCRL2 writes them, and makes them
+games' subformulas.
 
-Of mCRL2's formulas those without data are read: no val(..), no quantifiers, no time, and no parameters of fixed points. An
-action is compared with the label's text.
+Of mCRL2's formulas those without data are read: no val(..), no quantifiers, no time, and no parameters of
+fixed points. An action is compared with the label's text.
 """
 
 import re
 
-from lib import games
-from lib.tokens import Tokens
+from pgboard.command import shown
+from pgboard.command.texts import Tokens
 
 OPERATORS = ("=>", "||", "&&")
 VALUES = ("true", "false")
@@ -19,10 +20,14 @@ BRACKET = re.compile(r"(\()|\)")
 # what is no set of actions
 REGULAR = ("+", ".", "*", "plus")
 NAME_LENGTH = 60
+# so many signs * and + may stand in a row
+MOST_REPEATED = 1000
 
 
 def spelled(label):
-    """A label, or an action of a formula, with blanks only between words, and with the actions of a multi-action in order."""
+    """A label, or an action of a formula, with blanks only between words, and with the actions of a
+    multi-action in order.
+    """
     actions, depth = [""], 0
     for it in re.findall(r"[()|]|[^()|]+", re.sub(r"(?<![\w']) | (?![\w'])", "", " ".join(label.split()))):
         depth += (it == "(") - (it == ")")
@@ -36,7 +41,8 @@ def spelled(label):
 class Parser(Tokens):
     """Reads a formula: a tree (operator, place, ..), in which negations and implications still stand.
 
-    What a modality has in its brackets is a tree (operator, text, ..). Its leaves are actions, quoted labels, true and false.
+    What a modality has in its brackets is a tree (operator, text, ..). Its leaves are actions, quoted
+    labels, true and false.
     """
 
     pattern = re.compile(
@@ -46,7 +52,9 @@ class Parser(Tokens):
 
     def __init__(self, name, text):
         # a comment is as good as blanks
-        super().__init__(name, QUOTED_OR_COMMENT.sub(lambda it: it[0] if it[0][0] == '"' else " " * len(it[0]), text))
+        super().__init__(
+            name, QUOTED_OR_COMMENT.sub(lambda it: it[0] if it[0][0] == '"' else " " * len(it[0]), text)
+        )
 
     def end_of(self, found):
         if found["word"] in NOT_READ:
@@ -91,9 +99,12 @@ class Parser(Tokens):
     def variable(self, wanted):
         name = self.word(wanted).text
         if name in (*VALUES, *FIXED_POINTS) or name[0].isdigit():
-            self.refuse(f"{games.shown(name)} can't be a variable", self.done - len(name))
+            self.refuse(f"{shown(name)} can't be a variable", self.done - len(name))
         if "(" in name:
-            self.refuse("a fixed point with parameters is not read: only formulas without data are", self.done - len(name))
+            self.refuse(
+                "a fixed point with parameters is not read: only formulas without data are",
+                self.done - len(name),
+            )
         return name
 
     # --- what modalities have in their brackets ---
@@ -106,8 +117,11 @@ class Parser(Tokens):
         return self.chain(("+", "."), self.repeated, self.joined)
 
     def repeated(self):
-        at, tree = self.at(), self.chain(OPERATORS, self.action, self.joined)
+        at, tree, depth = self.at(), self.chain(OPERATORS, self.action, self.joined), 0
         while self.next_is("*") or self.next_is("+") and not self.goes_on():
+            depth += 1
+            if depth > MOST_REPEATED:
+                self.refuse("nested too deeply")
             operator = "*" if self.take("*", "+").text == "*" else "plus"
             tree = operator, self.since(at), tree
         return tree
@@ -120,7 +134,7 @@ class Parser(Tokens):
     def joined(self, operator, at, left, right):
         for it in (left, right):
             if operator in OPERATORS and it[0] in REGULAR:
-                self.refuse(f"{operator} joins sets of actions, and {games.shown(it[1])} is none", at)
+                self.refuse(f"{operator} joins sets of actions, and {shown(it[1])} is none", at)
         return operator, self.since(at), left, right
 
     def action(self):
@@ -128,7 +142,7 @@ class Parser(Tokens):
         if self.takes("!"):
             tree = self.action()
             if tree[0] in REGULAR:
-                self.refuse(f"! is for a set of actions, and {games.shown(tree[1])} is none", at)
+                self.refuse(f"! is for a set of actions, and {shown(tree[1])} is none", at)
             return "!", self.since(at), tree
         if self.takes("("):
             operator, _, *parts = self.regular()
@@ -168,7 +182,9 @@ class Labels:
 
 
 def named(tree, negated=False):
-    """The leaves that name an action in what a modality has in its brackets, but for those under an odd number of negations."""
+    """The leaves that name an action in what a modality has in its brackets, but for those under an odd
+    number of negations.
+    """
     operator, _, *parts = tree
     if operator in ("label", "action"):
         return [] if negated else [tree]
@@ -183,12 +199,14 @@ DUAL.update({value: key for key, value in DUAL.items()})
 
 
 class Formula:
-    """A formula without negations, as a list of subformulas (operator, priority, set of actions, parts), and the first one's number.
+    """A formula without negations, as a list of subformulas (operator, priority, set of actions, parts), and
+    the first one's number.
 
-    A variable is no subformula of its own: where it is a part, its fixed point is. A fixed point's priority is the least that is
-    odd for mu and even for nu, and no less than that of each fixed point inside it in which its variable is free: so it is as
-    great as the formula's alternations ask for, and the greatest that is seen again and again is that of the outermost fixed
-    point that is. A regular modality becomes plain ones by its fixed points, as <R*>F = mu X. (F || <R>X).
+    A variable is no subformula of its own: where it is a part, its fixed point is. A fixed point's priority
+    is the least that is odd for mu and even for nu, and no less than that of each fixed point inside it in
+    which its variable is free: so it is as great as the formula's alternations ask for, and the greatest
+    that is seen again and again is that of the outermost fixed point that is. A regular modality becomes
+    plain ones by its fixed points, as <R*>F = mu X. (F || <R>X).
     """
 
     def __init__(self, name, text):
@@ -202,14 +220,21 @@ class Formula:
             self.parser.refuse("nested too deeply")
 
     def new(self, operator=None, text="", parts=(), actions=None, number=None):
-        """Adds a subformula of some parts: its number, the fixed points whose variables are free in it, and its text."""
+        """Adds a subformula of some parts: its number, the fixed points whose variables are free in it, and
+        its text.
+        """
         if number is None:
             number = len(self.parts)
             for every in (self.parts, self.free, self.texts):
                 every.append(None)
         if operator:
             self.free[number] = set().union(*(free for _, free, _ in parts)) - {number}
-            self.parts[number] = operator, self.priority(operator, number), actions, [part for part, _, _ in parts]
+            self.parts[number] = (
+                operator,
+                self.priority(operator, number),
+                actions,
+                [part for part, _, _ in parts],
+            )
             self.texts[number] = text if len(text) <= NAME_LENGTH else text[: NAME_LENGTH - 2] + ".."
         return number, self.free[number], self.texts[number]
 
@@ -267,15 +292,21 @@ class Formula:
 
     def variable(self, at, name, negated, scope):
         if name not in scope:
-            self.parser.refuse(f"the variable {games.shown(name)} is not bound by mu or nu", at)
+            self.parser.refuse(f"the variable {shown(name)} is not bound by mu or nu", at)
         number, inside = scope[name]
         if inside != negated:
-            self.parser.refuse(f"the variable {games.shown(name)} is under an odd number of negations inside its fixed point", at)
+            self.parser.refuse(
+                f"the variable {shown(name)} is under an odd number of negations inside its fixed point", at
+            )
         return number, {number}, name
 
     def priority(self, operator, number):
         if operator not in FIXED_POINTS:
             return int(operator == "false")
-        inside = (part for part, free in zip(self.parts, self.free) if part and part[0] in FIXED_POINTS and number in free)
+        inside = (
+            part
+            for part, free in zip(self.parts, self.free)
+            if part and part[0] in FIXED_POINTS and number in free
+        )
         least = max((priority for _, priority, _, _ in inside), default=0)
         return least + (least + (operator == "mu")) % 2

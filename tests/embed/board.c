@@ -141,7 +141,7 @@ static void posts_and_refuses(void)
     EXPECT(refuses(posts_open, PGBOARD_POST_OPEN, 2, 1));
     EXPECT(refuses(solution, PGBOARD_BOARD_UNSETTLED, 3, 0));
     EXPECT(not_read(0, MOST, MOST, PGBOARD_BOARD_ENTRY, 0));
-    EXPECT(posts_zero() == PGBOARD_OK && posted.entry == 0 && posted.rest == 1 && posted.settled == 2);
+    EXPECT(posts_zero() == PGBOARD_OK && posted.entry == 0 && posted.claimed == 1 && posted.settled == 2);
     EXPECT(state() == PGBOARD_OK && winners[0] == 0 && winners[1] == PGBOARD_NO_WINNER && winners[2] == 0);
     EXPECT(choices[0] == 0 && choices[1] == NONE && choices[2] == 0);
     EXPECT(refuses(posts_stale, PGBOARD_POST_STALE, 0, 0));
@@ -367,7 +367,7 @@ static void *posts(void *given)
         pthread_mutex_lock(&turn);
         uint32_t answer = pgboard_board_post(&board, &claim, &numbers, &said);
         printf("post %u %u %u %llu %llu %llu %llu %llu |", answer, claim.worker, claim.player, (unsigned long long)said.at, (unsigned long long)said.to,
-               (unsigned long long)numbers.entry, (unsigned long long)numbers.rest, (unsigned long long)numbers.settled);
+               (unsigned long long)numbers.entry, (unsigned long long)numbers.claimed, (unsigned long long)numbers.settled);
         for (size_t r = 0; r < it.vertices_len; r++)
             printf(" %u", it.vertices[r]);
         printf(" |");

@@ -151,7 +151,7 @@ static void answers()
     EXPECT(rest.try_finish_within(more) == PGBOARD_OK && rest.settled() == 5 && rest.solution().winners == within.value.winners);
     pgboard::board board(two);
     const auto posted = board.try_post(1, {1}, {1});
-    EXPECT(posted && posted.value.entry == 0 && posted.value.rest == 1 && posted.value.settled == 1);
+    EXPECT(posted && posted.value.entry == 0 && posted.value.claimed == 1 && posted.value.settled == 1);
     const auto stale = board.try_post(1, {1}, {1}, 8);
     EXPECT(!stale && stale.answer == PGBOARD_POST_STALE && stale.report.at == 0);
     const auto open = board.try_post(0, {0}, {1});
@@ -351,7 +351,7 @@ int main(int argc, char **argv)
     EXPECT(refuses(PGBOARD_POST_LENGTHS, 1, 0, [&] { board.post(0, {0}, {}); }));
     EXPECT(refuses(PGBOARD_BOARD_UNSETTLED, 2, 0, [&] { board.solution(); }));
     const auto posted = board.post(1, {1}, {1}, 8);
-    EXPECT(posted.entry == 0 && posted.rest == 1 && posted.settled == 1);
+    EXPECT(posted.entry == 0 && posted.claimed == 1 && posted.settled == 1);
     EXPECT((board.state().winners == std::vector<std::uint8_t>{PGBOARD_NO_WINNER, 1}) && board.settled() == 1);
     board.finish();
     EXPECT(board.entries() == 2 && board.solution().winners == found.winners && board.solution().choices == found.choices);

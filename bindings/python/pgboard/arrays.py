@@ -1,5 +1,6 @@
-"""The arrays that the calls take and return: what a caller gives is read, copied where it has to be, and refused where C could not
-read it."""
+"""The arrays that the calls take and return: what a caller gives is read, copied where it has to be, and
+refused where C could not read it.
+"""
 
 from __future__ import annotations
 
@@ -7,10 +8,23 @@ import operator
 import os
 from array import array
 from itertools import accumulate
-from typing import TYPE_CHECKING, Any, Dict, Iterable, List, NamedTuple, Optional, Protocol, Sequence, Tuple, Union
+from typing import (
+    TYPE_CHECKING,
+    Any,
+    Dict,
+    Iterable,
+    Iterator,
+    List,
+    NamedTuple,
+    Optional,
+    Protocol,
+    Sequence,
+    Tuple,
+    Union,
+)
 
 from . import faults
-from .library import NO_CHOICE, NO_WINNER, Ints
+from .library import NO_CHOICE, NO_WINNER, Ints, index_of
 
 if TYPE_CHECKING:
     PathLike = os.PathLike[str]
@@ -22,24 +36,28 @@ else:
 class HasBuffer(Protocol):
     """What has Python's buffer protocol."""
 
-    def __buffer__(self, flags: int, /) -> memoryview: ...
+    def __buffer__(self, flags: int, /) -> memoryview:
+        ...
 
 
 class HasArrayInterface(Protocol):
     """An array of NumPy, as its types of any version say it."""
 
     @property
-    def __array_interface__(self) -> Dict[str, Any]: ...
+    def __array_interface__(self) -> Dict[str, Any]:
+        ...
 
 
 class Rows(Protocol):
     """A matrix of SciPy in the form `csr`, whose rows are what vertices lead to."""
 
     @property
-    def indptr(self) -> Any: ...
+    def indptr(self) -> Any:
+        ...
 
     @property
-    def indices(self) -> Any: ...
+    def indices(self) -> Any:
+        ...
 
 
 Listed = Union[Ints, List[int]]
@@ -56,7 +74,8 @@ class Solution(NamedTuple):
     choices: Ints
 
 
-# the formats of items that are integers in this machine's order of bytes, and those of them that C takes as they are
+# the formats of items that are integers in this machine's order of bytes, and those of them that C takes as
+# they are
 INTEGERS = "?bBhHiIlLqQnN"
 # the greatest priority
 MOST = 2**31 - 1
@@ -72,7 +91,9 @@ def integers(view: memoryview) -> Ints:
 
 
 def fitting(code: str, values: Sequence[int]) -> Ints:
-    """The same numbers in an array of other items. In place of what does not fit it has a number that the library refuses there."""
+    """The same numbers in an array of other items. In place of what does not fit it has a number that the
+    library refuses there.
+    """
     try:
         return array(code, values)
     except OverflowError:
@@ -82,8 +103,9 @@ def fitting(code: str, values: Sequence[int]) -> Ints:
 
 
 def view_of(name: str, value: Buffer, code: str, taken: Dict[str, Tuple[str, ...]] = TAKEN) -> memoryview:
-    """A view of a buffer's memory, if C takes its items for those of this code; else of a copy with such items. TypeError for what is
-    no contiguous buffer of integers."""
+    """A view of a buffer's memory, if C takes its items for those of this code; else of a copy with such
+    items. TypeError for what is no contiguous buffer of integers.
+    """
     needed = "a contiguous buffer of integers in one dimension is needed, not"
     if isinstance(value, (list, tuple)):
         return memoryview(listed(name, value, code))
@@ -96,57 +118,108 @@ def view_of(name: str, value: Buffer, code: str, taken: Dict[str, Tuple[str, ...
     if view.ndim != 1:
         raise TypeError(f"{name}: {needed} one of {view.ndim} dimensions")
     if not view.c_contiguous:
-        raise TypeError(f"{name}: {needed} one with gaps between its items: numpy.ascontiguousarray copies it")
+        raise TypeError(
+            f"{name}: {needed} one with gaps between its items: numpy.ascontiguousarray copies it"
+        )
     if view.format.lstrip("@=<") not in tuple(INTEGERS):
         raise TypeError(f"{name}: {needed} one of items {view.format!r} of {view.itemsize} bytes")
     return memoryview(fitting(code, integers(view)))
 
 
 def listed(name: str, values: Sequence[int], code: str) -> Ints:
-    """The numbers of a list as an array; TypeError, with its name, for other items."""
+    """The numbers of a list as an array; TypeError, with its name and the place, for other items."""
     try:
         return fitting(code, values)
-    except TypeError as error:
-        raise TypeError(f"{name}: a list of integers is needed: {error}") from error
+    except TypeError:
+        refuse_items(name, values)
+        raise
 
 
-def numbers(code: str, values: Numbers) -> Listed:
-    """An array of these numbers. Where it can't hold one, a list of them, which the library refuses later, in its own order."""
-    held = values if isinstance(values, (list, tuple)) else list(values)
+def refuse_items(name: str, values: Iterable[Any]) -> None:
+    """Refuses the first item that is no integer."""
+    for at, it in enumerate(values):
+        index_of(f"{name}[{at}]", it)
+
+
+def items_of(name: str, values: Iterable[Any]) -> Iterator[Any]:
+    """The items of what can be gone through; TypeError, with its name, for what can't."""
+    try:
+        return iter(values)
+    except TypeError:
+        raise TypeError(f"{name}: a list is needed, not {type(values).__name__}") from None
+
+
+def held_of(name: str, values: Iterable[Any]) -> Union[List[Any], Tuple[Any, ...]]:
+    return values if isinstance(values, (list, tuple)) else list(items_of(name, values))
+
+
+def numbers(name: str, code: str, values: Numbers) -> Listed:
+    """An array of these numbers. Where it can't hold one, a list of them, which the library refuses later,
+    in its own order.
+    """
+    held = held_of(name, values)
     try:
         return array(code, held)
     except OverflowError:
         return list(held)
+    except TypeError:
+        refuse_items(name, held)
+        raise
 
 
 def rows_of(successors: Iterable[Numbers]) -> Tuple[Ints, Listed]:
     """Where each row begins and ends, and the rows one after another."""
     starts, targets = array("I", [0]), array("I")
     rest: List[int] = []
-    for row in successors:
-        held = row if isinstance(row, (list, tuple)) else list(row)
+    for v, row in enumerate(items_of("successors", successors)):
+        held = held_of(f"successors[{v}]", row)
         try:
             (rest or targets).extend(held)
         except OverflowError:
             rest = [*targets[: starts[-1]], *held]
+        except TypeError:
+            refuse_items(f"successors[{v}]", held)
+            raise
         starts.append(len(rest or targets))
     return starts, rest or targets
 
 
-def game_of(owners: Numbers, priorities: Numbers, successors: Iterable[Numbers]) -> Tuple[Listed, Listed, Ints, Listed]:
+def game_of(
+    owners: Numbers, priorities: Numbers, successors: Iterable[Numbers]
+) -> Tuple[Listed, Listed, Ints, Listed]:
     """The arrays of a game."""
-    return (numbers("B", owners), numbers("I", priorities), *rows_of(successors))
+    return (numbers("owners", "B", owners), numbers("priorities", "I", priorities), *rows_of(successors))
 
 
 def claims_of(winners: MaybeNumbers, choices: MaybeNumbers) -> Tuple[Listed, Ints]:
-    """The arrays of winners and choices. None is no winner, which is taken of what is known alone, or no choice."""
-    return numbers("B", [NO_WINNER if it is None else it for it in winners]), moves_of(choices)
+    """The arrays of winners and choices. None is no winner, which is taken of what is known alone, or no
+    choice.
+    """
+    return numbers(
+        "winners", "B", [NO_WINNER if it is None else it for it in items_of("winners", winners)]
+    ), moves_of(choices)
+
+
+def pair_of(known: Any) -> Tuple[Any, Any]:
+    """The winners and choices of what is known."""
+    try:
+        winners, choices = known
+    except (TypeError, ValueError):
+        raise TypeError(
+            f"known: a pair of winners and choices is needed, not {type(known).__name__}"
+        ) from None
+    return winners, choices
 
 
 def moves_of(choices: MaybeNumbers) -> Ints:
     """The array of choices. In place of what is no vertex it has one that C refuses."""
-    given = (None if it is None else operator.index(it) for it in choices)
-    return array("I", (NO_CHOICE if it is None else it if 0 <= it < NO_CHOICE else NO_CHOICE - 1 for it in given))
+    given = (
+        None if it is None else index_of(f"choices[{v}]", it)
+        for v, it in enumerate(items_of("choices", choices))
+    )
+    return array(
+        "I", (NO_CHOICE if it is None else it if 0 <= it < NO_CHOICE else NO_CHOICE - 1 for it in given)
+    )
 
 
 def rows_of_matrix(indptr: Union[Buffer, Rows], indices: Optional[Buffer]) -> Tuple[Buffer, Buffer]:
@@ -154,21 +227,37 @@ def rows_of_matrix(indptr: Union[Buffer, Rows], indices: Optional[Buffer]) -> Tu
     if indices is not None:
         return indptr, indices  # type: ignore[return-value]
     if getattr(indptr, "format", None) != "csr":
-        raise TypeError(f"indices: without them a SciPy matrix in the form csr is needed for indptr, not {type(indptr).__name__}")
+        raise TypeError(
+            f"indices: without them a SciPy matrix in the form csr is needed for indptr, not {type(indptr).__name__}"
+        )
     return indptr.indptr, indptr.indices  # type: ignore[union-attr]
 
 
-def game_views(owners: Buffer, priorities: Buffer, indptr: Buffer, indices: Buffer, dead_ends: bool = False, least: bool = False) -> List[memoryview]:
+def game_views(
+    owners: Buffer,
+    priorities: Buffer,
+    indptr: Buffer,
+    indices: Buffer,
+    dead_ends: bool = False,
+    least: bool = False,
+) -> List[memoryview]:
     """The views of a game: of what is given, or of copies in the form that the library takes."""
-    views = [view_of("owners", owners, "B"), view_of("priorities", priorities, "I"), view_of("indptr", indptr, "I"), view_of("indices", indices, "I")]
+    views = [
+        view_of("owners", owners, "B"),
+        view_of("priorities", priorities, "I"),
+        view_of("indptr", indptr, "I"),
+        view_of("indices", indices, "I"),
+    ]
     if least:
         views[1] = with_greatest(views[1])
     return with_loops(*views) if dead_ends else views
 
 
 def with_greatest(priorities: memoryview) -> memoryview:
-    """Priorities of which the greatest decides, for those of which the least does: in falling order, each gets the least number of its
-    parity that is above those before it. (What is no priority stays, and is refused.)"""
+    """Priorities of which the greatest decides, for those of which the least does: in falling order, each
+    gets the least number of its parity that is above those before it. (What is no priority stays, and is
+    refused.)
+    """
     held = integers(priorities)
     if min(held, default=0) < 0 or max(held, default=0) > MOST:
         return priorities
@@ -180,12 +269,20 @@ def with_greatest(priorities: memoryview) -> memoryview:
     return memoryview(array("I", map(new.__getitem__, held)))
 
 
-def with_loops(owners: memoryview, priorities: memoryview, indptr: memoryview, indices: memoryview) -> List[memoryview]:
-    """The game in which a vertex without successors leads to itself, with the priority that its owner loses by. (Where the arrays do not
-    fit, they stay, and are refused.)"""
+def with_loops(
+    owners: memoryview, priorities: memoryview, indptr: memoryview, indices: memoryview
+) -> List[memoryview]:
+    """The game in which a vertex without successors leads to itself, with the priority that its owner loses
+    by. (Where the arrays do not fit, they stay, and are refused.)
+    """
     starts, ranks = integers(indptr), array("I", priorities.tobytes())
     dead = [v for v in range(min(len(owners), len(ranks), len(starts) - 1)) if starts[v] == starts[v + 1]]
-    fits = len(starts) == len(owners) + 1 and starts[0] == 0 and starts[-1] == len(indices) and all(map(operator.le, starts, starts[1:]))
+    fits = (
+        len(starts) == len(owners) + 1
+        and starts[0] == 0
+        and starts[-1] == len(indices)
+        and all(map(operator.le, starts, starts[1:]))
+    )
     if not dead or not fits:
         return [owners, priorities, indptr, indices]
     targets, begin = array("I"), 0
@@ -198,7 +295,12 @@ def with_loops(owners: memoryview, priorities: memoryview, indptr: memoryview, i
         begin = starts[v]
     targets.frombytes(indices[begin:].tobytes())
     added = accumulate(it == after for it, after in zip(starts, starts[1:]))
-    return [owners, memoryview(ranks), memoryview(array("I", [0, *map(operator.add, starts[1:], added)])), memoryview(targets)]
+    return [
+        owners,
+        memoryview(ranks),
+        memoryview(array("I", [0, *map(operator.add, starts[1:], added)])),
+        memoryview(targets),
+    ]
 
 
 def claim_views(winners: Buffer, choices: Buffer) -> List[memoryview]:
@@ -206,7 +308,9 @@ def claim_views(winners: Buffer, choices: Buffer) -> List[memoryview]:
 
 
 def as_given(fault: faults.UnknownSuccessor, indptr: memoryview, indices: Buffer) -> faults.UnknownSuccessor:
-    """The fault of an unknown successor, with the number that the caller's buffer has, unless another thread has changed it since."""
+    """The fault of an unknown successor, with the number that the caller's buffer has, unless another thread
+    has changed it since.
+    """
     row: Sequence[int] = indices if isinstance(indices, (list, tuple)) else integers(memoryview(indices))  # type: ignore[arg-type]
     bounds = integers(indptr)[fault.at : fault.at + 2]
     row = row[slice(*bounds)] if len(bounds) == 2 else []

@@ -39,7 +39,7 @@ class Posted(NamedTuple):
     were settled, which are these and all that they attract."""
 
     entry: int
-    rest: int
+    claimed: int
     settled: int
 
 
@@ -64,7 +64,7 @@ class Board:
         ...     board.post(0, {0: 0}, worker=7)
         ...     board.finish()
         ...     board.solution().winners
-        Posted(entry=0, rest=1, settled=1)
+        Posted(entry=0, claimed=1, settled=1)
         array('B', [0, 1])
 
     Several threads may use a board, and their calls take turns. `finish` takes one for each slice of its work. `close`, the end of a

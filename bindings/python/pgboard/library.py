@@ -1,4 +1,6 @@
-"""The library of include/pgboard.h, which is found and loaded when this module is imported, and calls of it on copies of memory."""
+"""The library of include/pgboard.h, which is found and loaded when this module is imported, and calls of it
+on copies of memory.
+"""
 
 from __future__ import annotations
 
@@ -27,19 +29,31 @@ NO_WINNER = 255
 NUMBERS = [int(it) for it in __version__.split(".")]
 VERSION = NUMBERS[0] * 10000 + NUMBERS[1] * 100 + NUMBERS[2]
 HERE = os.path.dirname(os.path.abspath(__file__))
+# the commands that build it, at the top of the repository
+OUT = "crates/pgboard_c/out"
+WHOLE = f"-Wl,--whole-archive {OUT}/libpgboard_c.a -Wl,--no-whole-archive"
+LINK = f'cc -shared -o {OUT}/libpgboard.so {WHOLE} "$(dirname "$(rt doc)")/c/liblibc_c.a"'
+BUILD = f"`(cd crates/pgboard_c && rt lib)` and `{LINK}`"
 
 
 def path_of_library() -> str:
-    """The file that PGBOARD_LIBRARY names, else the one of the wheel, else of the repository, else of the system."""
+    """The file that PGBOARD_LIBRARY names, else the one of the wheel, else of the repository, else of the
+    system.
+    """
     beside = os.path.join(HERE, "libpgboard.so")
-    built = os.path.normpath(os.path.join(HERE, "..", "..", "..", "crates", "pgboard_c", "out", "libpgboard.so"))
+    built = os.path.normpath(
+        os.path.join(HERE, "..", "..", "..", "crates", "pgboard_c", "out", "libpgboard.so")
+    )
     there = [os.environ.get("PGBOARD_LIBRARY"), *filter(os.path.exists, [beside, built])]
     return next(filter(None, there), f"libpgboard.so.{NUMBERS[0]}")
 
 
 def load() -> ctypes.CDLL:
     """The library; ImportError, which says what to do, where it isn't there or is of another version."""
-    what_to_do = "install the wheel that ./package makes, or set PGBOARD_LIBRARY to the path of libpgboard.so"
+    what_to_do = (
+        "install the wheel that ./package makes, or set PGBOARD_LIBRARY to the path of libpgboard.so, "
+        f"which {BUILD} make"
+    )
     try:
         return native.load(path_of_library(), VERSION)
     except (OSError, AttributeError) as error:
@@ -75,7 +89,9 @@ def own(view: memoryview) -> Ints:
 
 
 def owned(views: Iterable[memoryview]) -> List[Ints]:
-    """Copies of views. (The library releases the interpreter's lock, so another thread may change what a caller has given.)"""
+    """Copies of views. (The library releases the interpreter's lock, so another thread may change what a
+    caller has given.)
+    """
     return [own(it) for it in views]
 
 
@@ -89,7 +105,11 @@ def run(name: str, *arguments: Any) -> None:
 
 def fault_of(answer: int, at: int, to: int) -> Exception:
     """The fault of an answer."""
-    return FAULTS[answer](at, to) if answer in FAULTS else RuntimeError(f"the library of pgboard answers {answer}")
+    return (
+        FAULTS[answer](at, to)
+        if answer in FAULTS
+        else RuntimeError(f"the library of pgboard answers {answer}")
+    )
 
 
 def written(into: Ints, name: str, *arguments: Any) -> str:

@@ -62,6 +62,6 @@ pub use Rattle.pg_board.specs.declared.journal.Posted.{Posted}
 pub use Rattle.pg_board.specs.declared.journal.Refusal.{Refusal}
 pub use Rattle.pg_board.specs.declared.regions.Regions.{Regions}
 pub use Rattle.pg_board.specs.declared.regions.VertexState.{VertexState}
-pub use Rattle.pg_board.specs.private.Growth.{IsGrowing, open_before}
+pub use Rattle.pg_board.specs.private.WrittenRows.{HasWritten, open_before}
 pub use Rattle.pg_board.specs.private.OpenEdges.{EndsOutside, IsFirstOutside, LeadsOutside}
 pub use Rattle.pg_board.specs.private.Regions.{AreRegions, IsBoard, state_with, table_state}

@@ -7,7 +7,9 @@ pub mod Numbers
 pub mod Copies
 pub mod Places
 pub mod OwnEntries
+pub mod Slices
 pub mod OpeningState
 pub mod PushedEntry
 pub mod NoRowOfOpponent
 pub mod WholeAttractor
+pub mod Refused

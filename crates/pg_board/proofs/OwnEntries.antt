@@ -1,11 +1,11 @@
 -- What a board adds of its own accord, as worker 0: for each player at most one entry, and together they settle all that was left.
 use Rattle.pg_board.proofs.Common.{rules, ◌≡◌, ℕ, List, Bool, Option, Some, true, false, ◌<◌, [], ◌∷◌, ◌++◌, length, refl, sym, ◌∙◌, ap, subst, arith}
 use Rattle.pg_board.proofs.Common.{fun_ext, length-append, append-nil, append_assoc, map-append, take-append-le, or_cases, or_right, target_attracted}
-use Rattle.pg_board.proofs.Common.{VertexSet, In, Player, Even, Odd, Graph, IsGame, ClaimRows, Claim, named, IsGoodIn, Entry, Posted, BoardRecord, State, settled, unsettled}
+use Rattle.pg_board.proofs.Common.{VertexSet, Player, Even, Odd, Graph, IsGame, ClaimRows, Claim, IsGoodIn, Entry, Posted, BoardRecord, unsettled}
 use Rattle.pg_board.proofs.Common.{is_unsettled, Journal, state_of, IsDominionAfter, IsLawful, IsFull, Adds, Refusal, Err}
 use Rattle.std.proofs.Common.{map}
 use Rattle.std.specs.Prelude.{filter}
-use Rattle.pg_text.proofs.FirstFaults.{all-append}
+use Rattle.pg_game.proofs.AllElements.{all-append}
 use Rattle.pg_finders.specs.Claims.{AreClaims}
 use Rattle.pg_board.specs.Finish.{AreOfCaller, IsLater, IsContinued}
 use Rattle.pg_board.specs.Post.{SettlesDominion, SettlesUnlessMemory}

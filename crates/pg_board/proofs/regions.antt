@@ -1,6 +1,6 @@
 -- Lemmas of the proofs of `regions`.
 pub mod KeptEdgesOfRows
-pub mod GrowthSteps
+pub mod WrittenRowSteps
 pub mod FirstLost
 pub mod RowsInMasks
 pub mod Tables

@@ -1,10 +1,12 @@
 -- What the calling thread adds to a board, as worker 0.
-use Rattle.std.specs.Prelude.{◌≡◌, ◌≤◌, ◌++◌, Bool, List, length, map, filter}
+use Rattle.std.specs.Prelude.{ℕ, ◌≡◌, ◌≤◌, ◌++◌, Bool, true, false, List, Option, Result, length, map, filter, IsSome, IfOk, OnErr}
 use Rattle.std.specs.List.{AllByRecursion}
 use Rattle.pg_game.specs.declared.player.Player.{Player}
 use Rattle.pg_board.specs.declared.journal.Entry.{Entry}
 use Rattle.pg_board.specs.BoardRecord.{BoardRecord}
-use Rattle.pg_board.specs.Journal.{Journal}
+use Rattle.std.specs.declared.alloc.AllocError.{AllocError}
+use Rattle.pg_board.specs.Full.{IsFull}
+use Rattle.pg_board.specs.Journal.{Journal, state_of, IsLawful}
 
 -- entries of worker 0, at most one for each of the players, in their order
 pub record AreOfCaller (players : List Player) (entries : Journal) : Type 0 where
@@ -26,3 +28,14 @@ pub record IsContinued (old new : BoardRecord) : Type 0 where
   pub added : Journal
   pub journal : new.journal ≡ old.journal ++ added
   pub worker : AllByRecursion (λ e. e.worker ≡ 0) added
+
+-- what a board answers that is to settle all, and what it then is: all is settled, or it is as before
+pub record IsFinishAnswer (limit : Option ℕ) (old new : BoardRecord) (result : Result Bool AllocError) : Type 0 where
+  pub lawful : IsLawful new.graph new.journal
+  pub game : new.graph ≡ old.graph
+  pub full : IfOk result (λ done. done ≡ true → IsFull new.graph (state_of new.journal))
+  pub continued : IfOk result (λ done. done ≡ true → IsContinued old new)
+  pub gave_up : IfOk result (λ done. done ≡ false → new ≡ old)
+  pub unsettled : IfOk result (λ done. done ≡ false → IsFull old.graph (state_of old.journal) → ⊥)
+  pub limited : IfOk result (λ done. done ≡ false → IsSome limit)
+  pub unchanged : OnErr result (new ≡ old)

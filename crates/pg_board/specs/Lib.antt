@@ -7,7 +7,10 @@ pub mod BoardRecord
 pub mod Post
 pub mod Shares
 pub mod Full
+pub mod Board
 pub mod Finish
 pub mod Work
+pub mod SessionRecord
+pub mod Slices
 pub mod Office
 pub mod private

@@ -8,7 +8,6 @@ use Rattle.pg_game.specs.VertexSet.{In, union}
 use Rattle.pg_game.specs.Kept.{KeptEdge}
 use Rattle.pg_dominion.specs.Claim.{ClaimRows, named, choice_in, IsSound}
 use Rattle.pg_dominion.specs.Fault.{IsClaimFault}
-use Rattle.pg_dominion.specs.Checked.{CheckedClaim, claim_rows, AgreesWithGame, IsForeign}
 use Rattle.pg_dominion.specs.declared.claim.ClaimFault.{ClaimFault}
 use Rattle.pg_dominion.specs.declared.claim.ClaimFault.TheVariants as claim_fault
 use Rattle.pg_board.specs.declared.journal.Refusal.{Refusal}
@@ -49,9 +48,3 @@ IsOfState (refusal.Lost v) = Unit {0}
 IsOfState refusal.Stale = Unit {0}
 IsOfState (refusal.Open v w) = Unit {0}
 IsOfState refusal.Memory = Unit {0}
-
--- why a board refuses a checked claim: it does not agree with the game, or it does and the state is the reason
-abbrev pub RefusesChecked : Graph → State → CheckedClaim → Refusal → Type 0
-RefusesChecked g st c (refusal.Foreign v) = IsForeign g c.player c.rows v
-RefusesChecked g st c refusal.Memory = Unit {0}
-RefusesChecked g st c e = IsOfState e × AgreesWithGame g c.player c.rows × Refuses g st c.player (claim_rows c.player c.rows) e

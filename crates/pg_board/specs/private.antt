@@ -2,7 +2,7 @@
 pub mod VertexState
 pub mod Regions
 pub mod Contents
+pub mod Stage
 pub mod OpenEdges
-pub mod Growth
-pub mod Growing
-pub mod Office
+pub mod WrittenRows
+pub mod WrittenInTurn

@@ -2,20 +2,15 @@
 //! The invariant of its type is that the journal is lawful, so every board has a lawful one.
 
 ghost use Rattle.std.specs.Prelude.{◌≡◌, ◌≤◌, ℕ, [], length, take, IfOk, IfErr, OnErr, IsTrue, IsSome, IfSome, ◌↔◌};
-ghost use Rattle.pg_game.specs.declared.player.Player.{Player};
-ghost use Rattle.pg_game.specs.Graph.{IsGame};
-ghost use Rattle.pg_game.specs.Limits.{IsWithinLimits};
-ghost use Rattle.pg_game.specs.VertexSet.{members};
-ghost use Rattle.pg_dominion.specs.Claim.{ClaimRows, IsGoodIn, IsSound};
-ghost use Rattle.pg_dominion.specs.Checked.{claim_rows, claim_of, AgreesWithGame};
-ghost use Rattle.pg_board.specs.State.{unsettled, rest_of, IsGoodOn, choices, winner_in};
-ghost use Rattle.pg_board.specs.Journal.{state_of, IsLawful, IsDominionAfter, number_settled, settled_by};
-ghost use Rattle.pg_board.specs.Full.{IsFull, AreStateRows};
-ghost use Rattle.pg_board.specs.private.Contents.{IsOf, board_record};
+ghost use Rattle.pg_dominion.specs.Claim.{IsSound};
+ghost use Rattle.pg_board.specs.State.{IsGoodOn, choices, winner_in};
+ghost use Rattle.pg_board.specs.Journal.{state_of, number_settled, settled_by};
+ghost use Rattle.pg_board.specs.Full.{IsFull};
+ghost use Rattle.pg_board.specs.Board.{IsLawfulBoard, IsCopyOf, IsSolutionOf};
+ghost use Rattle.pg_board.specs.private.Contents.{IsContentsOf, board_record};
 ghost use Rattle.pg_board.specs.private.Regions.{IsBoard};
-ghost use Rattle.pg_text.specs.Solution.{IsExactSolution};
-ghost use Rattle.pg_board.specs.Refusal.{Refuses, RefusesChecked, IsOfState};
-ghost use Rattle.pg_board.specs.Post.{Adds, AnswersDominion, SettlesUnlessMemory};
+ghost use Rattle.pg_board.specs.Refusal.{Refuses, IsOfState};
+ghost use Rattle.pg_board.specs.Post.{Adds, IsPostAnswer, IsSettleAnswer};
 
 use crate::contents::Contents;
 use crate::journal::{Entry, Posted, Refusal};
@@ -65,7 +60,7 @@ impl<'g> Board<'g> {
 
     /// A board of these contents.
     pub(crate) fn attach(game: &'g Game, contents: Contents) -> Board<'g>
-        requires { IsOf game.now contents }
+        requires { IsContentsOf game.now contents }
         ensures { result ≡ board_record game.now contents }
     {
         Board { game, contents }
@@ -73,7 +68,7 @@ impl<'g> Board<'g> {
 
     /// The contents, without their game.
     pub(crate) fn detach(self) -> Contents
-        ensures contents { IsOf self.entry.graph result }
+        ensures contents { IsContentsOf self.entry.graph result }
         ensures board { board_record self.entry.graph result ≡ self.entry }
     {
         self.contents
@@ -81,12 +76,7 @@ impl<'g> Board<'g> {
 
     /// The unsettled part, the number of entries and the number settled. Looks at no edge. The only error is `Memory`.
     pub fn copy(&self, alloc: Global) -> Result<Copied<'g>, Memory>
-        ensures graph { IfOk result (λ c. c.inside.graph ≡ self.now.graph) }
-        ensures mask { IfOk result (λ c. (v : ℕ) → members c.inside.mask v ≡ unsettled self.now.graph (state_of self.now.journal) v) }
-        ensures at { IfOk result (λ c. c.at ≡ length self.now.journal) }
-        ensures settled { IfOk result (λ c. c.settled ≡ number_settled self.now.journal) }
-        ensures dominions { IfOk result (λ c. (p : Player) (rows : ClaimRows) → IsGoodIn self.now.graph (members c.inside.mask) p rows
-            → IsDominionAfter self.now.graph self.now.journal c.at p rows) }
+        ensures { IfOk result (IsCopyOf self.now) }
     {
         // for the proof: the graph is a game, so no edge leaves it
         let _n = self.game.len();
@@ -102,14 +92,7 @@ impl<'g> Board<'g> {
     /// it attracts for the claim's player from the unsettled part (Zielonka 1998). Else the error is the first reason that
     /// applies, in the order of `Refusal`, or `Memory`. After an error nothing has changed.
     pub fn post(&mut self, alloc: Global, worker: u32, claim: &Claim) -> Result<Posted, Refusal>
-        ensures lawful { IsLawful self.new.graph self.new.journal }
-        ensures game { self.new.graph ≡ self.old.graph }
-        ensures posted { IfOk result (λ posted. IsGoodOn self.old.graph (state_of self.old.journal) claim.now.player claim.now.rows
-            × Adds self.old self.new worker claim.now posted) }
-        ensures refused { IfErr result (λ e. Refuses self.old.graph (state_of self.old.journal) claim.now.player claim.now.rows e) }
-        ensures unchanged { OnErr result (self.new ≡ self.old) }
-        ensures old_copies { (k : ℕ) → IsDominionAfter self.old.graph self.old.journal k claim.now.player claim.now.rows
-            → AnswersDominion (state_of self.old.journal) claim.now.rows result × SettlesUnlessMemory self.old self.new claim.now.player claim.now.rows result }
+        ensures { IsPostAnswer self.old self.new worker claim.now result }
     {
         // for the proof: the graph is a game
         let _n = self.game.len();
@@ -125,17 +108,7 @@ impl<'g> Board<'g> {
         worker: u32,
         checked: &Checked,
     ) -> Result<Posted, Refusal>
-        ensures lawful { IsLawful self.new.graph self.new.journal }
-        ensures game { self.new.graph ≡ self.old.graph }
-        ensures agrees { IfOk result (λ posted. AgreesWithGame self.old.graph checked.now.player checked.now.rows) }
-        ensures posted { IfOk result (λ posted. IsGoodOn self.old.graph (state_of self.old.journal) checked.now.player
-            (claim_rows checked.now.player checked.now.rows) × Adds self.old self.new worker (claim_of checked.now) posted) }
-        ensures refused { IfErr result (λ e. RefusesChecked self.old.graph (state_of self.old.journal) checked.now e) }
-        ensures unchanged { OnErr result (self.new ≡ self.old) }
-        ensures old_copies { (k : ℕ) → AgreesWithGame self.old.graph checked.now.player checked.now.rows
-            → IsDominionAfter self.old.graph self.old.journal k checked.now.player (claim_rows checked.now.player checked.now.rows)
-            → AnswersDominion (state_of self.old.journal) (claim_rows checked.now.player checked.now.rows) result
-            × SettlesUnlessMemory self.old self.new checked.now.player (claim_rows checked.now.player checked.now.rows) result }
+        ensures { IsSettleAnswer self.old self.new worker checked.now result }
     {
         // for the proof: the graph is a game
         let _n = self.game.len();
@@ -149,10 +122,7 @@ impl<'g> Board<'g> {
     /// The game. The contract of this call states the invariant of the type.
     pub fn game(&self) -> &'g Game
         ensures graph { result.now ≡ self.now.graph }
-        ensures game { IsGame self.now.graph }
-        ensures limits { IsWithinLimits self.now.graph }
-        ensures lawful { IsLawful self.now.graph self.now.journal }
-        ensures within { number_settled self.now.journal ≤ length self.now.graph }
+        ensures board { IsLawfulBoard self.now }
     {
         // for the proof: reading a field gives the invariant of the type, and so the journal is lawful
         let _ = &self.contents.entries;
@@ -216,9 +186,7 @@ impl<'g> Board<'g> {
     /// Winners and choices of all vertices, exactly where the board is full. A vertex has a choice exactly where its winner
     /// owns it. The only error is `Memory`.
     pub fn solution(&self, alloc: Global) -> Result<Option<Solution>, Memory>
-        ensures full { IfOk result (λ found. IsSome found ↔ IsFull self.now.graph (state_of self.now.journal)) }
-        ensures solution { IfOk result (λ found. IfSome found (λ s. IsExactSolution self.now.graph s.rows)) }
-        ensures state { IfOk result (λ found. IfSome found (λ s. AreStateRows self.now.graph (state_of self.now.journal) s.rows)) }
+        ensures { IfOk result (IsSolutionOf self.now) }
     {
         self.contents.solution(alloc, self.game)
     }

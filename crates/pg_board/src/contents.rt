@@ -1,13 +1,13 @@
 //! What a board stores beside its game: the journal, and tables of the journal's state. The calls that write them take no
 //! memory, so their callers have it all before the board changes.
 
-ghost use Rattle.std.specs.Prelude.{◌≡◌, ◌≤◌, ◌<◌, ◌↔◌, length, IfOk, IsTrue, IsSome, IfSome, vec_capacity, vec_len};
+ghost use Rattle.std.specs.Prelude.{◌≡◌, ◌≤◌, ◌<◌, ◌↔◌, length, IfOk, IsTrue, vec_capacity, vec_len};
 ghost use Rattle.pg_board.specs.State.{rest_of, IsGoodOn};
 ghost use Rattle.pg_board.specs.Journal.{state_of};
-ghost use Rattle.pg_board.specs.Full.{IsFull, AreStateRows};
+ghost use Rattle.pg_board.specs.Full.{IsFull};
+ghost use Rattle.pg_board.specs.Board.{IsSolutionOf};
 ghost use Rattle.pg_board.specs.Post.{Adds};
-ghost use Rattle.pg_board.specs.private.Contents.{IsOf, board_record};
-ghost use Rattle.pg_text.specs.Solution.{IsExactSolution};
+ghost use Rattle.pg_board.specs.private.Contents.{IsContentsOf, board_record};
 
 use crate::journal::{Entry, Posted};
 use crate::regions::Regions;
@@ -26,7 +26,7 @@ pub struct Contents {
 impl Contents {
     /// Whether no vertex is unsettled.
     pub fn is_full(&self, game: &Game) -> bool
-        requires { IsOf game.now self.now }
+        requires { IsContentsOf game.now self.now }
         ensures { IsTrue result ↔ IsFull game.now (state_of self.now.entries.items) }
     {
         self.number == game.len()
@@ -34,10 +34,8 @@ impl Contents {
 
     /// The solution, exactly where no vertex is unsettled. The only error is `Memory`.
     pub fn solution(&self, alloc: Global, game: &Game) -> Result<Option<Solution>, Memory>
-        requires { IsOf game.now self.now }
-        ensures full { IfOk result (λ found. IsSome found ↔ IsFull game.now (state_of self.now.entries.items)) }
-        ensures solution { IfOk result (λ found. IfSome found (λ s. IsExactSolution game.now s.rows)) }
-        ensures state { IfOk result (λ found. IfSome found (λ s. AreStateRows game.now (state_of self.now.entries.items) s.rows)) }
+        requires { IsContentsOf game.now self.now }
+        ensures { IfOk result (IsSolutionOf (board_record game.now self.now)) }
     {
         if !self.is_full(game) {
             return Ok(None);
@@ -57,11 +55,11 @@ impl Contents {
         player: Player,
         mut rows: Vec<(u32, Option<u32>)>,
     ) -> Posted
-        requires board { IsOf game.now self.old }
+        requires board { IsContentsOf game.now self.old }
         requires good { IsGoodOn game.now (state_of self.old.entries.items) player rows.items }
         requires unsettled { rest_of (state_of self.old.entries.items) rows.items ≡ rows.items }
         requires spare { (length game.now ≤ vec_capacity rows) × (vec_len self.old.entries < vec_capacity self.old.entries) }
-        ensures board { IsOf game.now self.new }
+        ensures board { IsContentsOf game.now self.new }
         ensures added { Adds (board_record game.now self.old) (board_record game.now self.new) worker (record { player = player; rows = rows.items }) result }
         ensures spare { vec_capacity self.new.entries ≡ vec_capacity self.old.entries }
     {
@@ -69,7 +67,7 @@ impl Contents {
         let n = game.len();
         let entry = self.entries.len() as u64;
         let claimed = rows.len() as u32;
-        self.regions.settle_rows(game, player, rows.as_slice());
+        self.regions.write_rows(game, player, rows.as_slice());
         let is_full = self.number + claimed == n;
         self.regions.attract(game, player, &mut rows, is_full);
         rows.shrink_to_fit();

@@ -1,22 +1,21 @@
 //! How a board settles all that is left, as worker 0: it posts what the searches of the standard finder find, and then what
 //! Zielonka's recursion (1998) finds in the rest. The board checks these claims as it checks any other.
 
-ghost use Rattle.std.specs.Prelude.{◌≡◌, ◌≢◌, ◌<◌, ◌∷◌, ℕ, [], length, IfOk, OnOk, OnErr, IfSome, IsNone, IsSome, true, false};
+ghost use Rattle.std.specs.Prelude.{◌≡◌, ◌≢◌, ◌<◌, ◌∷◌, ℕ, [], length, IfOk, OnOk, IsSome, true, false};
 ghost use Rattle.pg_game.specs.declared.player.Player.TheVariants.{Even, Odd};
-ghost use Rattle.pg_game.specs.VertexSet.{members};
 ghost use Rattle.pg_finders.specs.Claims.{AreClaims};
 ghost use Rattle.pg_board.specs.declared.journal.Refusal.{Refusal};
 ghost use Rattle.pg_board.specs.State.{unsettled};
 ghost use Rattle.pg_board.specs.Journal.{state_of, IsLawful, IsDominionAfter};
 ghost use Rattle.pg_board.specs.Full.{IsFull};
-ghost use Rattle.pg_board.specs.Finish.{IsContinued, IsLater};
+ghost use Rattle.pg_board.specs.Finish.{IsContinued, IsLater, IsFinishAnswer};
 ghost use Rattle.pg_board.specs.private.Contents.{Settles};
 
 use crate::board::Board;
 use crate::journal::Refusal;
 use crate::options::{BUDGET, Options};
 use pg_dominion::Claim;
-use pg_finders::{Finder, Found, Inside, Job, Solved, Standard, zielonka, zielonka_within};
+use pg_finders::{Finder, Found, Job, Solved, Standard, zielonka_within};
 use pg_game::Memory;
 use std::alloc::{AllocError, Global};
 
@@ -24,14 +23,7 @@ impl<'g> Board<'g> {
     /// Settles all that is unsettled, as worker 0. It posts what the searches before the recursion find (`Options::job`), job
     /// after job, and then the rest (`post_rest`). False if it gave up. After that or an error nothing has changed.
     pub fn finish(&mut self, alloc: Global, limit: Option<u64>) -> Result<bool, Memory>
-        ensures lawful { IsLawful self.new.graph self.new.journal }
-        ensures game { self.new.graph ≡ self.old.graph }
-        ensures full { IfOk result (λ done. done ≡ true → IsFull self.new.graph (state_of self.new.journal)) }
-        ensures continued { IfOk result (λ done. done ≡ true → IsContinued self.old self.new) }
-        ensures gave_up { IfOk result (λ done. done ≡ false → self.new ≡ self.old) }
-        ensures unsettled { IfOk result (λ done. done ≡ false → IsFull self.old.graph (state_of self.old.journal) → ⊥) }
-        ensures limited { IfOk result (λ done. done ≡ false → IsSome limit) }
-        ensures unchanged { OnErr result (self.new ≡ self.old) }
+        ensures { IsFinishAnswer limit self.old self.new result }
     {
         if self.contents.is_full(self.game) {
             return Ok(true);
@@ -50,7 +42,7 @@ impl<'g> Board<'g> {
 
     /// Solves what is unsettled by Zielonka's recursion (1998), and posts Even's claim and then Odd's as worker 0, unless they have
     /// no rows. False if there is a limit and the recursion needs more steps (`zielonka_within`). The only error is `Memory`, after
-    /// which the board may have Even's entry alone.
+    /// which the board may have either entry, or both.
     pub fn post_rest(&mut self, alloc: Global, limit: Option<u64>) -> Result<bool, Memory>
         ensures lawful { IsLawful self.new.graph self.new.journal }
         ensures later { IsLater (Even ∷ Odd ∷ []) self.old self.new }
@@ -62,7 +54,7 @@ impl<'g> Board<'g> {
             return Ok(true);
         }
         let copied = self.copy(alloc)?;
-        let Some(solved) = solve_inside(alloc, &copied.inside, limit)? else {
+        let Some(solved) = zielonka_within(alloc, &copied.inside, limit)? else {
             return Ok(false);
         };
         self.post_solved(alloc, &solved)?;
@@ -107,7 +99,7 @@ impl<'g> Board<'g> {
     }
 
     /// Posts two claims that share out the unsettled part.
-    fn post_solved(&mut self, alloc: Global, solved: &Solved) -> Result<(), Memory>
+    pub(crate) fn post_solved(&mut self, alloc: Global, solved: &Solved) -> Result<(), Memory>
         requires { AreClaims self.old.graph (unsettled self.old.graph (state_of self.old.journal)) solved.now.even solved.now.odd }
         ensures lawful { IsLawful self.new.graph self.new.journal }
         ensures later { IsLater (Even ∷ Odd ∷ []) self.old self.new }
@@ -156,21 +148,6 @@ fn dropped(refusal: Refusal) -> Result<(), Memory>
     match refusal {
         Refusal::Memory => Err(AllocError),
         _ => Ok(()),
-    }
-}
-
-/// Both players' claims of the recursion; none if there is a limit and it needs more steps.
-fn solve_inside(
-    alloc: Global,
-    inside: &Inside,
-    limit: Option<u64>,
-) -> Result<Option<Solved>, Memory>
-    ensures claims { IfOk result (λ found. IfSome found (λ solved. AreClaims inside.now.graph (members inside.now.mask) solved.even solved.odd)) }
-    ensures limited { IfOk result (λ found. IsNone found → IsSome limit) }
-{
-    match limit {
-        Some(steps) => zielonka_within(alloc, inside, steps),
-        None => Ok(Some(zielonka(alloc, inside)?)),
     }
 }
 

@@ -2,15 +2,14 @@
 //! amount is the number of vertices that were settled through it. The ledger keeps the book equal to the sum of all amounts,
 //! and the type under the lock keeps it equal to the number settled.
 
-ghost use Rattle.std.specs.Prelude.{◌≡◌, ◌+◌, ◌-◌, ◌≤◌, ◌<◌, ℕ, ◌∷◌, [], IfOk, IfSome, OnErr, length, sum, replicate, vec_capacity, vec_len};
+ghost use Rattle.std.specs.Prelude.{◌≡◌, ◌+◌, ◌-◌, ◌≤◌, ◌<◌, ℕ, ◌∷◌, [], IfOk, IfSome, length, sum, replicate, vec_capacity, vec_len};
 ghost use Rattle.pg_game.specs.Specification.{max_vertices};
 ghost use Rattle.pg_board.specs.Journal.{IsLawful, number_settled};
 ghost use Rattle.std.specs.Sync.Mutex.{mutex_guard_value};
 ghost use Rattle.pg_board.specs.Shares.{AreExact};
-ghost use Rattle.pg_board.specs.Office.{IsCopyOfSome, IsPostAnswer, IsAnswerOfSome, IsCheckedAnswer, IsCheckedAnswerOfSome};
-ghost use Rattle.pg_board.specs.Post.{Adds};
-ghost use Rattle.pg_board.specs.private.Office.{IsLawfulBoard};
-ghost use Rattle.pg_dominion.specs.Checked.{claim_of};
+ghost use Rattle.pg_board.specs.Board.{IsLawfulBoard};
+ghost use Rattle.pg_board.specs.Office.{IsCopyOfSome, Through, IsAnswerOfSome, IsCheckedAnswerOfSome, IsRaised};
+ghost use Rattle.pg_board.specs.Post.{IsPostAnswer, IsSettleAnswer};
 
 use crate::board::Board;
 use crate::journal::{Posted, Refusal};
@@ -155,10 +154,8 @@ impl<'g, L: Ledger> Office<'g, L> {
         worker: u32,
         claim: &Claim,
     ) -> Result<u32, Refusal>
-        ensures answer { IsAnswerOfSome share.old claim.now.player claim.now.rows result }
-        ensures added { IfOk result (λ n. (1 ≤ n) × (share.new ≡ share.old + n)) }
-        ensures within { IfOk result (λ n. share.new ≤ max_vertices) }
-        ensures unchanged { OnErr result (share.new ≡ share.old) }
+        ensures answer { IsAnswerOfSome share.old worker claim.now result }
+        ensures raised { IsRaised share.old share.new result }
     {
         self.lock_for(rt, share).post(alloc, share, worker, claim)
     }
@@ -172,10 +169,8 @@ impl<'g, L: Ledger> Office<'g, L> {
         worker: u32,
         checked: &Checked,
     ) -> Result<u32, Refusal>
-        ensures answer { IsCheckedAnswerOfSome share.old checked.now result }
-        ensures added { IfOk result (λ n. (1 ≤ n) × (share.new ≡ share.old + n)) }
-        ensures within { IfOk result (λ n. share.new ≤ max_vertices) }
-        ensures unchanged { OnErr result (share.new ≡ share.old) }
+        ensures answer { IsCheckedAnswerOfSome share.old worker checked.now result }
+        ensures raised { IsRaised share.old share.new result }
     {
         self.lock_for(rt, share)
             .settle(alloc, share, worker, checked)
@@ -189,7 +184,7 @@ impl<'g, L: Ledger> Office<'g, L> {
         alloc: Global,
         share: &Share<L>,
     ) -> Result<Copied<'g>, Memory>
-        ensures some { IfOk result (λ c. IsCopyOfSome c.inside c.at c.settled share.now) }
+        ensures some { IfOk result (λ c. IsCopyOfSome share.now c) }
     {
         let locked = self.lock_for(rt, share);
         // for the proof: the invariant of the board
@@ -234,11 +229,8 @@ impl<'g, L: Ledger> LockedBoard<'g, L> {
     ) -> Result<u32, Refusal>
         requires { share.old ≤ number_settled self.old.board.journal }
         ensures board { IsLawfulBoard self.old.board }
-        ensures posted { IfOk result (λ n. (posted : Posted) × Adds self.old.board self.new.board worker claim.now posted × (n ≡ posted.settled)) }
-        ensures answer { IsPostAnswer self.old.board.graph self.old.board.journal claim.now.player claim.now.rows result }
-        ensures added { IfOk result (λ n. (1 ≤ n) × (share.new ≡ share.old + n)) }
-        ensures within { IfOk result (λ n. share.new ≤ max_vertices) }
-        ensures unchanged { OnErr result ((share.new ≡ share.old) × (self.new.board ≡ self.old.board)) }
+        ensures answer { Through (IsPostAnswer self.old.board self.new.board worker claim.now) result }
+        ensures raised { IsRaised share.old share.new result }
     {
         let LockedBoard { board, book } = self;
         // for the proof: the invariant of the board before the post
@@ -257,11 +249,8 @@ impl<'g, L: Ledger> LockedBoard<'g, L> {
     ) -> Result<u32, Refusal>
         requires { share.old ≤ number_settled self.old.board.journal }
         ensures board { IsLawfulBoard self.old.board }
-        ensures posted { IfOk result (λ n. (posted : Posted) × Adds self.old.board self.new.board worker (claim_of checked.now) posted × (n ≡ posted.settled)) }
-        ensures answer { IsCheckedAnswer self.old.board.graph self.old.board.journal checked.now result }
-        ensures added { IfOk result (λ n. (1 ≤ n) × (share.new ≡ share.old + n)) }
-        ensures within { IfOk result (λ n. share.new ≤ max_vertices) }
-        ensures unchanged { OnErr result ((share.new ≡ share.old) × (self.new.board ≡ self.old.board)) }
+        ensures answer { Through (IsSettleAnswer self.old.board self.new.board worker checked.now) result }
+        ensures raised { IsRaised share.old share.new result }
     {
         let LockedBoard { board, book } = self;
         // for the proof: the invariant of the board before the claim is settled

@@ -14,7 +14,7 @@ ghost use Rattle.pg_game.specs.Subgame.{IsSubgame};
 ghost use Rattle.pg_game.specs.VertexSet.{members, In, Within, union};
 ghost use Rattle.pg_dominion.specs.Claim.{named, IsRightRow, AreRight};
 ghost use Rattle.pg_dominion.specs.AttractorState.{AttractsNoFurther};
-ghost use Rattle.pg_board.specs.private.Growth.{open_before, IsGrowing, Grows};
+ghost use Rattle.pg_board.specs.private.WrittenRows.{open_before, HasWritten, WritesInTurn};
 ghost use Rattle.pg_game.specs.Least.{NoneHas, IsLeast};
 ghost use Rattle.pg_board.specs.Refusal.{IsLost};
 ghost use Rattle.pg_board.specs.private.OpenEdges.{AreTakenOut, EndsOutside, IsFirstEnd, LeadsOutside, IsFirstOutside};
@@ -133,16 +133,16 @@ impl Regions {
     }
 
     /// Settles the vertices of given rows, which are known to be unsettled.
-    pub fn settle_rows(&mut self, game: &Game, player: Player, rows: &[(u32, Option<u32>)])
+    pub fn write_rows(&mut self, game: &Game, player: Player, rows: &[(u32, Option<u32>)])
         requires regions { AreRegions game.now self.old }
         requires unsettled { Within (named rows.now) (members self.old.unsettled) }
         requires distinct { IsDistinct nat_eq (map (λ r. r.0) rows.now) }
-        ensures growing { IsGrowing game.now self.new rows.now (length game.now) }
+        ensures growing { HasWritten game.now self.new rows.now (length game.now) }
         ensures same { (v : ℕ) → open_before self.new rows.now v ≡ members self.old.unsettled v }
         ensures written { (v : ℕ) → table_state self.new.table.items v ≡ state_with (table_state self.old.table.items) player rows.now v }
     {
         'rows: for row in rows {
-            self.settle_vertex(player, *row);
+            self.write_row(player, *row);
         }
     }
 
@@ -156,10 +156,10 @@ impl Regions {
         is_full: bool,
     )
         requires full { is_full ≡ true → (v : ℕ) → members self.old.unsettled v ≡ false }
-        requires growing { IsGrowing game.now self.old rows.old.items (vec_capacity rows.old) }
+        requires growing { HasWritten game.now self.old rows.old.items (vec_capacity rows.old) }
         requires subgame { IsSubgame game.now (open_before self.old rows.old.items) }
-        ensures growing { IsGrowing game.now self.new rows.new.items (vec_capacity rows.new) }
-        ensures grows { Grows game.now player self.old rows.old.items self.new rows.new.items }
+        ensures growing { HasWritten game.now self.new rows.new.items (vec_capacity rows.new) }
+        ensures grows { WritesInTurn game.now player self.old rows.old.items self.new rows.new.items }
         ensures done { AttractsNoFurther game.now player (open_before self.old rows.old.items) (named rows.new.items) (named rows.new.items) }
     {
         if is_full {
@@ -186,6 +186,7 @@ impl Regions {
         Ok(rows)
     }
 
+    /// Whether the vertex is settled for the player.
     fn is_settled_for(&self, player: Player, v: u32) -> bool
         ensures { result ≡ settled (table_state self.now.table.items) player v }
     {
@@ -195,6 +196,7 @@ impl Regions {
         }
     }
 
+    /// Whether the vertex is unsettled, or no vertex.
     fn is_unsettled(&self, v: u32) -> bool
         ensures { result ≡ is_unsettled (table_state self.now.table.items v) }
     {
@@ -205,7 +207,7 @@ impl Regions {
     }
 
     /// Settles one vertex.
-    fn settle_vertex(&mut self, player: Player, row: (u32, Option<u32>))
+    fn write_row(&mut self, player: Player, row: (u32, Option<u32>))
         requires table { row.0 < length self.old.table.items }
         requires mask { row.0 < length self.old.unsettled }
         ensures size { length self.new.table.items ≡ length self.old.table.items }
@@ -241,8 +243,8 @@ impl Regions {
 impl AttractorState for Regions {
     ghost use Rattle.std.specs.Prelude.{length, refl};
     ghost use Rattle.pg_game.specs.VertexSet.{members};
-    ghost use Rattle.pg_board.specs.private.Growth.{IsGrowing, Grows};
-    ghost use Rattle.pg_board.specs.private.Growing.{Grows-same, Grows-then};
+    ghost use Rattle.pg_board.specs.private.WrittenRows.{HasWritten, WritesInTurn};
+    ghost use Rattle.pg_board.specs.private.WrittenInTurn.{WritesInTurn-same, WritesInTurn-then};
 
     type Item = (u32, Option<u32>);
 
@@ -252,9 +254,9 @@ impl AttractorState for Regions {
 
     ghost free = { λ s. members s.unsettled };
 
-    ghost ready = { λ g s rows spare. IsGrowing g s rows spare };
+    ghost ready = { λ g s rows spare. HasWritten g s rows spare };
 
-    ghost grown = { λ g p s rows s' rows'. Grows g p s rows s' rows' };
+    ghost grown = { λ g p s rows s' rows'. WritesInTurn g p s rows s' rows' };
 
     ghost refuses = { ⊥ };
 
@@ -279,7 +281,7 @@ impl AttractorState for Regions {
         list: &mut Vec<(u32, Option<u32>)>,
     ) -> Result<(), Memory> {
         list.push_reserved((v, choice));
-        self.settle_vertex(player, (v, choice));
+        self.write_row(player, (v, choice));
         Ok(())
     }
 
@@ -287,9 +289,9 @@ impl AttractorState for Regions {
 
     ghost apart = { λ g s rows spare v a. a.apart v };
 
-    ghost grown_same = { λ g p s rows. Grows-same g p s s rows refl refl };
+    ghost grown_same = { λ g p s rows. WritesInTurn-same g p s s rows refl refl };
 
-    ghost grown_then = { λ g p a b c xs ys zs. Grows-then g p a b c xs ys zs };
+    ghost grown_then = { λ g p a b c xs ys zs. WritesInTurn-then g p a b c xs ys zs };
 }
 
 /// The state of a vertex in 8 bytes; `Option<(Player, Option<u32>)>` takes 16. One tag says both whether the vertex is settled
@@ -304,6 +306,7 @@ pub enum VertexState {
 }
 
 impl VertexState {
+    /// Settled for the player, with this choice if there is one.
     pub fn settled(player: Player, choice: Option<u32>) -> VertexState
         ensures { state_in result ≡ Some (player, choice) }
     {
@@ -352,6 +355,7 @@ struct Bounds<'a> {
 }
 
 impl<'a> Bounds<'a> {
+    /// Whether the vertex is in the rest, or settled for the player.
     fn has(&self, w: u32) -> bool
         requires { w < length self.now.game.now }
         ensures { result ≡ union (named self.now.rest.now) (settled (table_state self.now.regions.now.table.items) self.now.player) w }

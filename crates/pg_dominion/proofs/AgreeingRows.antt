@@ -1,6 +1,6 @@
 -- Rows that are checked by themselves and agree with a game are a sound claim of it.
 use Rattle.pg_dominion.proofs.Common.{◌≡◌, ◌≢◌, ℕ, zero, suc, Bool, true, false, inl, inr, List, [], ◌∷◌, length, map, refl, sym, ◌∙◌, ap, arith, rules, ◌==◌}
-use Rattle.pg_dominion.proofs.Common.{Contains, AllByRecursion, eqb-true, cases_Bool, Player, same_player, of_parity, Graph, priority_of, In, Choices, KeptEdge}
+use Rattle.pg_dominion.proofs.Common.{subst, Contains, AllByRecursion, eqb-true, cases_Bool, Player, same_player, of_parity, Graph, priority_of, In, Choices, KeptEdge}
 use Rattle.pg_dominion.proofs.Common.{kept, Walk, ClosedWalk, greatest, greatest_priority, same_is, is_same, ClosedWalk-weaker, CheckedRow, named, choice_in}
 use Rattle.pg_dominion.proofs.Common.{IsRightRow, IsSound, claim_row, claim_rows, AgreesAt, AgreesWithGame, RowEdge, row_priority, AreChecked}
 use Rattle.std.proofs.Common.{max}
@@ -9,18 +9,35 @@ pub other_is : (q p : Player) → same_player q p ≡ false → q ≢ p
 other_is q p e h = cc (is_same q p h, e)
 
 module _ (g : Graph) (p : Player) where
-  abbrev Found : List CheckedRow → ℕ → Type 0
-  Found rows v =
-      (r : CheckedRow) × Contains rows r × (r.vertex ≡ v) × AgreesAt g p r × (choice_in (claim_rows p rows) v ≡ (claim_row p r).1)
-      × (row_priority rows v ≡ r.priority)
+  record Found (rows : List CheckedRow) (v : ℕ) : Type 0 where
+    row : CheckedRow
+    listed : Contains rows row
+    vertex : row.vertex ≡ v
+    agrees : AgreesAt g p row
+    choice : choice_in (claim_rows p rows) v ≡ (claim_row p row).1
+    priority : row_priority rows v ≡ row.priority
 
   found : (rows : List CheckedRow) → AgreesWithGame g p rows → (v : ℕ) → In (named (claim_rows p rows)) v → Found rows v
   found [] a v i = absurd (cc i)
   found (r ∷ rows) a v i = elim (cases_Bool (r.vertex == v)) [
-    | inl e ↦ (r, (zero, omega arith, refl), eqb-true r.vertex v e, a.0, rw e refl, rw e refl)
+    | inl e ↦ record {
+      row = r;
+      listed = (zero, omega arith, refl);
+      vertex = eqb-true r.vertex v e;
+      agrees = a.0;
+      choice = rw e refl;
+      priority = rw e refl;
+    }
     | inr e ↦ (let j : In (named (claim_rows p rows)) v = rw e at i in
         let f = found rows a.1 v j in
-        (f.0, (suc f.1.0, (let l = f.1.1 in omega (arith, l)), f.1.2), f.2, f.3, rw e f.4, rw e f.5))
+        record {
+          row = f.row;
+          listed = (suc f.listed.0, (let l = f.listed.1 in omega (arith, l)), f.listed.2);
+          vertex = f.vertex;
+          agrees = f.agrees;
+          choice = rw e f.choice;
+          priority = rw e f.priority;
+        })
   ]
 
   -- an edge that the claim of the rows keeps
@@ -33,10 +50,19 @@ module _ (g : Graph) (p : Player) where
   kept_cases s r a e false c = search (rules, r.vertex, a.owner, a.other, other_is, r.owner)
 
   edge : (rows : List CheckedRow) → AgreesWithGame g p rows → (v w : ℕ) → ClaimEdge rows v w → RowEdge rows v w
-  edge rows a v w (i, k) = search (rules, found, kept_cases)
+  edge rows a v w (i, k) =
+      let f = found rows a v i in
+      let s : Choices = choice_in (claim_rows p rows) in
+      let q : kept g p s f.row.vertex ≡ f.row.kept = kept_cases s f.row f.agrees (ap s f.vertex ∙ f.choice) (same_player f.row.owner p) refl in
+      record {
+        row = f.row;
+        listed = f.listed;
+        from = f.vertex;
+        to = subst (λ (ws : List ℕ). Contains ws w) q (subst (λ (u : ℕ). Contains (kept g p s u) w) (sym f.vertex) k);
+      }
 
   priority : (rows : List CheckedRow) → AgreesWithGame g p rows → (v : ℕ) → In (named (claim_rows p rows)) v → row_priority rows v ≡ priority_of g v
-  priority rows a v i = let f = found rows a v i in f.5 ∙ (f.3.priority ∙ ap (priority_of g) f.2)
+  priority rows a v i = let f = found rows a v i in f.priority ∙ (f.agrees.priority ∙ ap (priority_of g) f.vertex)
 
   pub walk_priority : (rows : List CheckedRow) → AgreesWithGame g p rows → (v : ℕ) (vs : List ℕ) (last : ℕ) → Walk (ClaimEdge rows) v vs last
       → greatest (row_priority rows) (v ∷ vs) ≡ greatest_priority g (v ∷ vs)

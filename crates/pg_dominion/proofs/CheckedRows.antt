@@ -51,11 +51,12 @@ module _ (g : Graph) (p : Player) where
   agree_at (x ∷ rows) r a (suc k, l, e) = agree_at rows r a.1 (k, omega (arith, l), e)
 
   kept_edge : (rows : List CheckedRow) → Rise rows → AgreesWithGame g p rows → (v w : ℕ) → RowEdge rows v w → ClaimEdge g p rows v w
-  kept_edge rows up a v w (r, m, e, i) =
-      let f = own_row rows r up m in
+  kept_edge rows up a v w edge =
+      let r = edge.row in
+      let f = own_row rows r up edge.listed in
       let q : kept g p (choice_in (claim_rows p rows)) r.vertex ≡ r.kept
-      = kept_cases g p (choice_in (claim_rows p rows)) r (agree_at rows r a m) f.chooses (same_player r.owner p) refl in
-      subst (λ (u : ℕ). ClaimEdge g p rows u w) e (f.names, subst (λ (ws : List ℕ). Contains ws w) (sym q) i)
+      = kept_cases g p (choice_in (claim_rows p rows)) r (agree_at rows r a edge.listed) f.chooses (same_player r.owner p) refl in
+      subst (λ (u : ℕ). ClaimEdge g p rows u w) edge.from (f.names, subst (λ (ws : List ℕ). Contains ws w) (sym q) edge.to)
 
   singles : (rows : List CheckedRow) → AgreesWithGame g p rows → AllByRecursion (KeepsOne p) rows
   singles [] a = tt
@@ -82,15 +83,15 @@ module _ (g : Graph) (p : Player) where
   -- the first row that does not agree, by its place
   pub foreign_at : (rows : List CheckedRow) (i : ℕ) (d : CheckedRow) → i < length rows → AgreesWithGame g p (take i rows)
       → (AgreesAt g p (get_or rows i d) → ⊥) → IsForeign g p rows (get_or rows i d).vertex
-  foreign_at rows i d l a n = (
-    take i rows,
-    drop (suc i) rows,
-    get_or rows i d,
-    sym (take-append-drop i rows) ∙ ap (λ (xs : List CheckedRow). take i rows ++ xs) (drop-cons rows i d l),
-    a,
-    n,
-    refl,
-  )
+  foreign_at rows i d l a n = record {
+    before = take i rows;
+    after = drop (suc i) rows;
+    row = get_or rows i d;
+    split = sym (take-append-drop i rows) ∙ ap (λ (xs : List CheckedRow). take i rows ++ xs) (drop-cons rows i d l);
+    agree = a;
+    differs = n;
+    vertex = refl;
+  }
 
 -- the same, of the list that a loop goes over
 pub foreign_here : (g : Graph) (p : Player) (rows items : List CheckedRow) → items ≡ rows → (i : ℕ) (r : CheckedRow) → i < length items
@@ -101,8 +102,8 @@ foreign_here g p rows items same i r l e a n =
 
 -- where all rows agree, none is foreign
 pub never_foreign : (g : Graph) (p : Player) (rows : List CheckedRow) (v : ℕ) → AgreesWithGame g p rows → IsForeign g p rows v → ⊥
-never_foreign g p rows v a (before, after, r, e, front, wrong, same) = wrong (agrees_mid before (subst (λ (xs : List CheckedRow). AgreesWithGame g p xs) e a))
+never_foreign g p rows v a f = f.differs (agrees_mid f.before (subst (λ (xs : List CheckedRow). AgreesWithGame g p xs) f.split a))
   where
-    agrees_mid : (before : List CheckedRow) → AgreesWithGame g p (before ++ r ∷ after) → AgreesAt g p r
+    agrees_mid : (before : List CheckedRow) → AgreesWithGame g p (before ++ f.row ∷ f.after) → AgreesAt g p f.row
     agrees_mid [] h = h.0
     agrees_mid (x ∷ xs) h = agrees_mid xs h.1

@@ -38,8 +38,9 @@ pub use Rattle.pg_dominion.specs.Kept.{IsKept}
 pub use Rattle.pg_dominion.specs.KeptEdges.{Edge, IsOnBadCycle, kept_row}
 pub use Rattle.pg_dominion.specs.declared.checked.CheckedRow.{CheckedRow}
 pub use Rattle.pg_dominion.specs.declared.strategy_graph.StrategyGraph.{StrategyGraph}
-pub use Rattle.pg_dominion.specs.private.Attracting.{IsTakenOrOpen, LeadFrom}
-pub use Rattle.pg_dominion.specs.private.KeptEdges.{AreLabelled, AreNoted, EdgeUnder, GoesOn, IsFollowed, IsQueued, IsSpread, Leads, Reaches, Searching}
-pub use Rattle.pg_dominion.specs.private.Plan.{IsPlanned, LeavesTo}
+pub use Rattle.pg_dominion.specs.private.FreeVertices.{IsTakenOrOpen, LeadFrom}
+pub use Rattle.pg_dominion.specs.private.KeptEdges.{AreLabelled, AreNoted, AreReached, EdgeUnder, GoesOn, IsFollowed, IsQueued, IsSpread, Leads, Reaches}
+pub use Rattle.pg_dominion.specs.private.KeptEdges.{label_lists, reached_lists}
+pub use Rattle.pg_dominion.specs.private.JointStrategy.{HoldsFirstRows, LeavesTo}
 pub use Rattle.pg_dominion.specs.private.Shape.{IsLaid, Layout, is_bad, laid_with, next_after}
-pub use Rattle.pg_dominion.specs.private.Staying.{AreNamed, Stays}
+pub use Rattle.pg_dominion.specs.private.ListedEnds.{AreNamed, LeadsToListed}

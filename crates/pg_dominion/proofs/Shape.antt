@@ -1,6 +1,6 @@
 -- The shape of a claim, one row after another.
 use Rattle.pg_dominion.proofs.Common.{◌≡◌, ℕ, zero, suc, ◌+◌, ◌<◌, ◌≤◌, false, inl, inr, List, [], ◌∷◌, ◌++◌, length, take, map, get_or, refl, sym, subst}
-use Rattle.pg_dominion.proofs.Common.{arith, length-append, rules, below_or_last, Option, AllByRecursion}
+use Rattle.pg_dominion.proofs.Common.{arith, length-append, rules, below_or_last, Option}
 use Rattle.pg_dominion.proofs.Common.{IsStrictlyIncreasing, eqb-true, false_from_ne_true}
 use Rattle.pg_dominion.proofs.Common.{drop, take-append-drop, take_more, take_all, length-map, get_or_append_left, get_or_push, sorted_from_strictly_increasing}
 use Rattle.pg_dominion.proofs.Common.{below_from_sorted, Player, Graph, ClaimRows, named, IsRightRow, AreRight, next_after}
@@ -9,6 +9,7 @@ use Rattle.std.proofs.Common.{None}
 use Rattle.pg_dominion.specs.Claim.{IsFirstWrongRow}
 use Rattle.pg_dominion.specs.private.Shape.{AreRightBefore}
 use Rattle.std.proofs.lemmas.List.{map_push, map-append}
+use Rattle.pg_game.proofs.AllElements.{all-push, all-front, all-back}
 
 abbrev vertices : ClaimRows → List ℕ
 vertices rows = map (λ r. r.0) rows
@@ -27,19 +28,10 @@ next_least : (rows : ClaimRows) (m : ℕ) → ((k : ℕ) → k < length rows →
 next_least [] m h = omega arith
 next_least (x ∷ rows) m h = let a : x.0 < m = h 0 (omega arith) in omega (arith, next_least rows m (λ k l. h (suc k) (omega arith)))
 
-all_push : (P : ℕ × Option ℕ → Type 0) (rows : ClaimRows) (r : ℕ × Option ℕ) → AllByRecursion P rows → P r
-    → AllByRecursion P (rows ++ r ∷ [])
-all_push P [] r a h = (h, tt)
-all_push P (x ∷ rows) r a h = (a.0, all_push P rows r a.1 h)
-
-all_last : (P : ℕ × Option ℕ → Type 0) (rows : ClaimRows) (r : ℕ × Option ℕ) → AllByRecursion P (rows ++ r ∷ []) → P r
-all_last P [] r a = a.0
-all_last P (x ∷ rows) r a = all_last P rows r a.1
-
 pub AreRight-push : (g : Graph) (p : Player) (rows : ClaimRows) (r : ℕ × Option ℕ) → AreRight g p rows → IsRightRow g p r → next_after rows ≤ r.0
     → AreRight g p (rows ++ r ∷ [])
 AreRight-push g p rows r a right l = record {
-  each = all_push (IsRightRow g p) rows r a.each right;
+  each = all-push (IsRightRow g p) rows r a.each right;
   rising = subst (λ (xs : List ℕ). IsStrictlyIncreasing xs) (sym (map_push (λ (x : ℕ × Option ℕ). x.0) rows r)) (λ k lt.
       let size = length-map rows (λ (x : ℕ × Option ℕ). x.0) in
       elim (below_or_last (length rows) (k + 1) (omega (arith, size, length-append (vertices rows) (r.0 ∷ [])))) [
@@ -65,7 +57,7 @@ AreRight-last g p rows r a =
     let size = length-map rows (λ (x : ℕ × Option ℕ). x.0) in
     let up : IsStrictlyIncreasing (vertices rows ++ r.0 ∷ []) =
     subst (λ (xs : List ℕ). IsStrictlyIncreasing xs) (map_push (λ (x : ℕ × Option ℕ). x.0) rows r) a.rising in (
-      all_last (IsRightRow g p) rows r a.each,
+      (all-back (IsRightRow g p) rows (r ∷ []) a.each).0,
       next_least rows r.0 (λ k l.
           let e = get_or_append_left (vertices rows) (r.0 ∷ []) 0 k (omega (arith, size)) in
           let f = get_or_push (vertices rows) r.0 0 (length rows) size in
@@ -74,12 +66,8 @@ AreRight-last g p rows r a =
           let i : get_or (vertices rows) k 0 < r.0 = omega (arith, e, f, h) in i),
     )
 
-all_front : (P : ℕ × Option ℕ → Type 0) (xs ys : ClaimRows) → AllByRecursion P (xs ++ ys) → AllByRecursion P xs
-all_front P [] ys a = tt
-all_front P (x ∷ xs) ys a = (a.0, all_front P xs ys a.1)
-
 pub AreRight-front : (g : Graph) (p : Player) (xs ys : ClaimRows) → AreRight g p (xs ++ ys) → AreRight g p xs
-AreRight-front g p xs ys a = search (rules, all_front, a.each, map-append, a.rising, get_or_append_left, length-append)
+AreRight-front g p xs ys a = search (rules, all-front, a.each, map-append, a.rising, get_or_append_left, length-append)
 
 -- each of right rows is right, and its vertex is above those before
 pub right_at : (g : Graph) (p : Player) (rows : ClaimRows) (i : ℕ) → AreRight g p rows → i < length rows

@@ -1,10 +1,10 @@
 -- Definitions that only private functions and proofs cite: no public contract uses them.
-pub mod Attracting
-pub mod Extending
+pub mod FreeVertices
+pub mod ExtendedRows
 pub mod KeptEdges
 pub mod Labels
 pub mod Shape
-pub mod Plan
+pub mod JointStrategy
 pub mod Ranking
 pub mod SearchProgress
-pub mod Staying
+pub mod ListedEnds

@@ -9,7 +9,7 @@ ghost use Rattle.pg_game.specs.Graph.{HasEdge};
 ghost use Rattle.pg_game.specs.Predecessors.{ArePredecessors};
 ghost use Rattle.pg_game.specs.VertexSet.{In, Within, all_vertices, union, members};
 ghost use Rattle.pg_dominion.specs.AttractorState.{listed_by, Takes, AttractsNoFurther};
-ghost use Rattle.pg_dominion.specs.private.Attracting.{IsTakenOrOpen};
+ghost use Rattle.pg_dominion.specs.private.FreeVertices.{IsTakenOrOpen};
 ghost use Rattle.pg_game.specs.Subgame.{IsSubgame};
 ghost use Rattle.pg_dominion.specs.Claim.{named};
 ghost use Rattle.pg_dominion.specs.Attraction.{IsAttraction};
@@ -243,8 +243,8 @@ struct FreeVertices {
 
 impl AttractorState for FreeVertices {
     ghost use Rattle.pg_game.specs.VertexSet.{members};
-    ghost use Rattle.pg_dominion.specs.private.Attracting.{IsFree, Extends};
-    ghost use Rattle.pg_dominion.specs.private.Extending.{extends_same, extends_then};
+    ghost use Rattle.pg_dominion.specs.private.FreeVertices.{IsFree, Extends};
+    ghost use Rattle.pg_dominion.specs.private.ExtendedRows.{extends_same, extends_then};
 
     type Item = (u32, Option<u32>);
 

@@ -1,7 +1,7 @@
 //! A claim that was checked, with what its game says of its vertices: so whether it is sound in another game can be judged
 //! row by row, with no search for closed walks. A checked claim owns its rows, and outlives the claim and the game.
 
-ghost use Rattle.std.specs.Prelude.{◌≡◌, IfOk, IfErr, MatchOption, true, false};
+ghost use Rattle.std.specs.Prelude.{◌≡◌, IfOk, IfErr, MatchOption, ◌↔◌, IsTrue};
 ghost use Rattle.pg_dominion.specs.Claim.{IsRightRow, AreRight, IsSound};
 ghost use Rattle.pg_dominion.specs.Fault.{IsClaimFault};
 ghost use Rattle.pg_dominion.specs.Checked.{claim_row, claim_rows, claim_of, KeepsOne, AgreesAt, AgreesWithGame, IsForeign, AreChecked};
@@ -58,8 +58,7 @@ impl CheckedRow {
     /// Whether the row says of its vertex what the game says.
     fn agrees(&self, game: &Game, player: Player) -> bool
         requires { KeepsOne player self.now }
-        ensures agrees { result ≡ true → AgreesAt game.now player self.now }
-        ensures foreign { result ≡ false → AgreesAt game.now player self.now → ⊥ }
+        ensures { IsTrue result ↔ AgreesAt game.now player self.now }
     {
         let v = self.vertex;
         if v >= game.len() || self.owner != game.owner(v) || self.priority != game.priority(v) {
@@ -110,6 +109,7 @@ impl Checked {
         })
     }
 
+    /// The player who claims.
     pub fn player(&self) -> Player
         ensures { result ≡ self.now.player }
     {

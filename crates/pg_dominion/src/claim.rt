@@ -4,7 +4,7 @@
 //! for a closed walk whose greatest priority is the opponent's. Any other such claim, and one that this search cannot decide, is
 //! laid out by vertex as kept edges, and `cycles` looks for the walk.
 
-ghost use Rattle.std.specs.Prelude.{◌≡◌, ℕ, ◌↔◌, ◌<◌, IfOk, IfErr, OnOk, length, true, false, ◌++◌, List, MatchOption};
+ghost use Rattle.std.specs.Prelude.{◌≡◌, ℕ, ◌↔◌, ◌<◌, IfOk, IfErr, OnOk, length, true, false, ◌++◌, List, MatchOption, IsTrue};
 ghost use Rattle.std.specs.List.{list_any};
 ghost use Rattle.pg_game.specs.Region.{OnBadWalk};
 ghost use Rattle.pg_dominion.specs.Claim.{IsSound, IsRightRow, HasShape, named, choice_in};
@@ -13,7 +13,7 @@ ghost use Rattle.pg_dominion.specs.private.Shape.{is_bad, ends_at};
 ghost use Rattle.pg_dominion.specs.KeptEdges.{IsOnBadCycle};
 ghost use Rattle.pg_game.specs.Least.{NoneHas};
 ghost use Rattle.pg_game.specs.VertexSet.{In};
-ghost use Rattle.pg_dominion.specs.private.Staying.{Stays, AreNamed};
+ghost use Rattle.pg_dominion.specs.private.ListedEnds.{LeadsToListed, AreNamed};
 
 use crate::cycles::least_bad_vertex;
 use crate::notes::{is_bad, note_choice, note_test};
@@ -116,8 +116,7 @@ fn names_bad_vertex(game: &ForwardGame, claim: &Claim) -> Result<bool, ClaimFaul
 
 /// Whether the row names a vertex, with a choice that is a successor exactly where the player owns it.
 fn is_right_row(game: &ForwardGame, player: Player, row: (u32, Option<u32>)) -> bool
-    ensures right { result ≡ true → IsRightRow game.now player row }
-    ensures wrong { result ≡ false → IsRightRow game.now player row → ⊥ }
+    ensures { IsTrue result ↔ IsRightRow game.now player row }
 {
     let (v, choice) = row;
     if v >= game.len() {
@@ -196,7 +195,7 @@ fn expand(
     requires named { AreNamed claim.now.rows list.old.items }
     ensures named { IfOk result (λ shown. AreNamed claim.now.rows list.new.items) }
     ensures longer { IfOk result (λ shown. (more : List ℕ) × (list.new.items ≡ list.old.items ++ more)) }
-    ensures stays { IfOk result (λ shown. shown ≡ true → Stays game.now claim.now.player claim.now.rows start list.new.items v) }
+    ensures stays { IfOk result (λ shown. shown ≡ true → LeadsToListed game.now claim.now.player claim.now.rows start list.new.items v) }
 {
     // for the proof: the graph is a game, so the ends of edges are vertices
     let _n = game.len();

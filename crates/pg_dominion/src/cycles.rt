@@ -9,10 +9,10 @@
 //! place in the queue before the first that was reached twice, each edge leads to a later place. Such a vertex is on no such
 //! closed walk, and gets a group of its own: it needs no search up to the level.
 
-ghost use Rattle.std.specs.Prelude.{◌≡◌, ℕ, ◌<◌, ◌≤◌, IfOk, IfSome, MatchOption, Some, None, length, true, false, ◌≢◌, ◌^◌, ◌⊎◌, slice_index};
+ghost use Rattle.std.specs.Prelude.{◌≡◌, ℕ, ◌<◌, ◌≤◌, IfOk, IfSome, MatchOption, Some, None, length, true, false, ◌≢◌, ◌^◌, ◌⊎◌, ◌↔◌, IsTrue, slice_index};
 ghost use Rattle.pg_game.specs.Least.{NoneHas, IsLeast};
 ghost use Rattle.pg_dominion.specs.KeptEdges.{IsOnBadCycle};
-ghost use Rattle.pg_dominion.specs.private.KeptEdges.{Reaches, IsBounded, Leads, AreLabelled, GoesOn, AreNoted};
+ghost use Rattle.pg_dominion.specs.private.KeptEdges.{Reaches, IsBounded, Leads, AreLabelled, GoesOn, AreNoted, label_lists, reached_lists};
 ghost use Rattle.pg_dominion.specs.private.SearchProgress.{IsSearched};
 ghost use Rattle.pg_game.specs.Graph.{priority_of};
 
@@ -114,8 +114,7 @@ impl<'k, 'g> Searches<'k, 'g> {
     fn find_bad_cycle(&mut self, v: u32) -> Result<bool, AllocError>
         requires { v < length self.old.labels.kept.now.game.now }
         ensures graph { self.new.labels.kept.now ≡ self.old.labels.kept.now }
-        ensures bad_cycle { IfOk result (λ found. found ≡ true → IsOnBadCycle self.old.labels.kept.now v) }
-        ensures none { IfOk result (λ found. found ≡ false → IsOnBadCycle self.old.labels.kept.now v → ⊥) }
+        ensures bad_cycle { IfOk result (λ found. IsTrue found ↔ IsOnBadCycle self.old.labels.kept.now v) }
     {
         let kept = self.labels.kept;
         if !kept.bad.has(v) || self.labels.is_alone(v) {
@@ -130,8 +129,7 @@ impl<'k, 'g> Searches<'k, 'g> {
     fn walks_back(&mut self, start: u32) -> Result<bool, AllocError>
         requires { start < length self.old.labels.kept.now.game.now }
         ensures graph { self.new.labels.kept.now ≡ self.old.labels.kept.now }
-        ensures back { IfOk result (λ found. found ≡ true → Reaches self.old.labels.kept.now start start) }
-        ensures none { IfOk result (λ found. found ≡ false → Reaches self.old.labels.kept.now start start → ⊥) }
+        ensures back { IfOk result (λ found. IsTrue found ↔ Reaches self.old.labels.kept.now start start) }
     {
         let kept = self.labels.kept;
         // for the proof: priorities are so small that one more fits, and so are vertices
@@ -176,7 +174,7 @@ struct Labels<'k, 'g> {
 }
 
 impl<'k, 'g> Labels<'k, 'g> {
-    ghost use Rattle.pg_dominion.specs.private.Labels.{IsSearching, IsSpreadAt};
+    ghost use Rattle.pg_dominion.specs.private.Labels.{HasReached, IsSpreadAt};
 
     /// No search has shown anything yet.
     fn new(alloc: Global, kept: &'k StrategyGraph<'g>) -> Result<Labels<'k, 'g>, AllocError>
@@ -215,10 +213,8 @@ impl<'k, 'g> Labels<'k, 'g> {
 
     /// Searches for a way back to the first vertex of the queue. Returns whether there is one.
     fn finds_back(&self, top: u32, own: u32, search: &mut WalkSearch) -> Result<bool, AllocError>
-        requires least { 0 < search.old.first_repeated }
-        requires state { IsSearching self.now top own search.old }
-        ensures least { 0 < search.new.first_repeated }
-        ensures state { IsSearching self.now top own search.new }
+        requires { HasReached self.now top own search.old }
+        ensures state { HasReached self.now top own search.new }
         ensures first { IfOk result (λ found. slice_index search.new.queue.items 0 ≡ slice_index search.old.queue.items 0) }
         ensures back { IfOk result (λ found. found ≡ true
             → Leads self.now.kept.now top (slice_index search.old.queue.items 0) (slice_index search.old.queue.items 0)) }
@@ -244,10 +240,8 @@ impl<'k, 'g> Labels<'k, 'g> {
         search: &mut WalkSearch,
     ) -> Result<bool, AllocError>
         requires place { at < length search.old.queue.items }
-        requires least { 0 < search.old.first_repeated }
-        requires state { IsSearching self.now top own search.old }
-        ensures least { 0 < search.new.first_repeated }
-        ensures state { IsSearching self.now top own search.new }
+        requires state { HasReached self.now top own search.old }
+        ensures state { HasReached self.now top own search.new }
         ensures later { IfOk result (λ found. GoesOn search.old.queue.items search.old.first_repeated search.new.queue.items search.new.first_repeated) }
         ensures back { IfOk result (λ found. found ≡ true
             → Leads self.now.kept.now top (slice_index search.old.queue.items 0) (slice_index search.old.queue.items 0)) }
@@ -363,8 +357,9 @@ fn note(levels: &mut Vec<u32>, groups: &mut Vec<u32>, search: &WalkSearch, level
     requires short { length search.now.places.items < 2 ^ 32 }
     requires below { (i : ℕ) → i < length search.now.queue.items → slice_index search.now.queue.items i < length search.now.places.items }
     requires placed { (i : ℕ) → i < length search.now.queue.items → slice_index search.now.places.items (slice_index search.now.queue.items i) ≡ i }
-    ensures { AreNoted levels.old.items groups.old.items search.now.places.items search.now.queue.items level start search.now.first_repeated
-        (length search.now.queue.items) levels.new.items groups.new.items }
+    ensures { AreNoted (label_lists levels.old.items groups.old.items)
+        (reached_lists search.now.places.items search.now.queue.items search.now.first_repeated) level start (length search.now.queue.items)
+        (label_lists levels.new.items groups.new.items) }
 {
     'queue: for at in 0..search.queue.len() {
         let v = search.queue[at];

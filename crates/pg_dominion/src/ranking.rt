@@ -5,7 +5,7 @@
 //! priority of its source. If such a bad vertex is the greatest on a closed walk, the walk goes down from it and cannot come
 //! back over its place.
 
-ghost use Rattle.std.specs.Prelude.{◌≡◌, ℕ, ◌<◌, ◌≤◌, ◌^◌, length, slice_index, vec_len, IfOk, true, false};
+ghost use Rattle.std.specs.Prelude.{◌≡◌, ℕ, ◌<◌, ◌≤◌, ◌^◌, length, slice_index, vec_len, IfOk, true, ◌↔◌, IsTrue};
 ghost use Rattle.pg_dominion.specs.KeptEdges.{IsOnBadCycle};
 ghost use Rattle.pg_dominion.specs.private.Ranking.{AreEnds, IsJudged, IsRankedRow};
 
@@ -43,8 +43,7 @@ pub fn is_ranked(alloc: Global, kept: &StrategyGraph, ranking: &Ranking) -> Resu
 /// For each place a later one, before which no key is greater.
 fn next_greater(alloc: Global, keys: &[u32]) -> Result<Vec<u32>, AllocError>
     requires { length keys.now < 2 ^ 31 }
-    ensures len { IfOk result (λ e. vec_len e ≡ length keys.now) }
-    ensures covered { IfOk result (λ e. AreEnds keys.now e.items) }
+    ensures { IfOk result (λ e. AreEnds keys.now e.items) }
 {
     let len = keys.len() as u32;
     let mut ends = vec![in alloc; 0u32; len as usize]?;
@@ -60,8 +59,7 @@ fn next_greater(alloc: Global, keys: &[u32]) -> Result<Vec<u32>, AllocError>
 fn end_of(keys: &[u32], ends: &[u32], at: u32) -> u32
     requires short { length keys.now < 2 ^ 31 }
     requires place { at < length keys.now }
-    requires size { length ends.now ≡ length keys.now }
-    requires covered { AreEnds keys.now ends.now }
+    requires ends { AreEnds keys.now ends.now }
     ensures within { result ≤ length keys.now }
     ensures covered { (q : ℕ) → at ≤ q → q < result → slice_index keys.now q ≤ slice_index keys.now at }
 {
@@ -82,8 +80,7 @@ fn end_of(keys: &[u32], ends: &[u32], at: u32) -> u32
 fn is_ranked_row(kept: &StrategyGraph, ranking: &Ranking, ends: &[u32], v: u32) -> bool
     requires vertex { v < length kept.now.game.now }
     requires places { length ranking.now.places.items ≡ length kept.now.game.now }
-    requires size { length ends.now ≡ length ranking.now.keys.items }
-    requires covered { AreEnds ranking.now.keys.items ends.now }
+    requires ends { AreEnds ranking.now.keys.items ends.now }
     ensures { result ≡ true → IsRankedRow kept.now ranking.now.from ranking.now.limit ranking.now.places.items ranking.now.keys.items v }
 {
     // for the proof: priorities are so small that twice one fits
@@ -110,8 +107,7 @@ fn is_ranked_row(kept: &StrategyGraph, ranking: &Ranking, ends: &[u32], v: u32) 
 /// Whether a vertex is bad, and one of those of which the ranking shows something.
 fn is_judged(kept: &StrategyGraph, ranking: &Ranking, v: u32) -> bool
     requires vertex { v < length kept.now.game.now }
-    ensures yes { result ≡ true → IsJudged kept.now ranking.now.from ranking.now.limit v }
-    ensures no { result ≡ false → IsJudged kept.now ranking.now.from ranking.now.limit v → ⊥ }
+    ensures { IsTrue result ↔ IsJudged kept.now ranking.now.from ranking.now.limit v }
 {
     ranking.from <= v && v < ranking.limit && kept.bad.has(v)
 }

@@ -3,13 +3,13 @@
 //! Four passes in the order of the faults. Once no kept edge leads from one winner's vertices to the other's, one search
 //! for bad closed walks serves both, since such a walk stays with one winner.
 
-ghost use Rattle.std.specs.Prelude.{◌≡◌, ℕ, ◌<◌, ◌↔◌, length, OnOk, IfOk, IfErr, IfSome, MatchOption, true, false};
+ghost use Rattle.std.specs.Prelude.{◌≡◌, ℕ, ◌<◌, ◌↔◌, length, OnOk, IfOk, IfErr, IfSome, MatchOption, IsTrue};
 ghost use Rattle.pg_game.specs.Least.{NoneHas, IsLeast};
 ghost use Rattle.pg_text.specs.Solution.{IsSolution, winner_of, choice_of};
 ghost use Rattle.pg_text.specs.Verdict.{LacksChoice, HasBadChoice, Leaves, IsOnBadWalk, IsFirstLeaving};
 ghost use Rattle.pg_dominion.specs.Verdict.{FailsBy};
 ghost use Rattle.pg_dominion.specs.KeptEdges.{IsOnBadCycle};
-ghost use Rattle.pg_dominion.specs.private.Plan.{IsPlanOf, LeavesTo, IsFirstTo};
+ghost use Rattle.pg_dominion.specs.private.JointStrategy.{IsJointStrategy, LeavesTo, IsFirstTo};
 
 use crate::cycles::least_bad_vertex;
 use crate::notes::{is_bad, note_choice, note_test, own_choice};
@@ -55,11 +55,11 @@ struct Candidate<'a> {
 
 /// The edges that are kept of a game, where each winner has his choices.
 #[derive(Clone, Copy)]
-struct Plan<'a, 'g> {
+struct JointStrategy<'a, 'g> {
     kept: &'a StrategyGraph<'g>,
     solution: &'a Solution,
     ghost size: { length solution.now.rows ≡ length kept.now.game.now },
-    ghost plan: { IsPlanOf kept.now solution.now.rows },
+    ghost joint: { IsJointStrategy kept.now solution.now.rows },
 }
 
 /// Whether winners and choices are a solution of a game: the vertices of each winner are closed under the edges that he
@@ -93,13 +93,15 @@ pub fn check_forward_solution(
     if let Some(v) = first_bad_choice(&candidate) {
         return Err(SolutionFault::BadChoice(game.id(v)));
     }
-    let kept = plan_of(alloc, &candidate)?;
-    let plan = Plan {
+    let kept = joint_strategy(alloc, &candidate)?;
+    let joint = JointStrategy {
         kept: &kept,
         solution,
     };
-    if let Some((v, w)) = first_leaving(&plan) {
-        return Err(SolutionFault::Leaves(game.id(v), game.id(w)));
+    if let Some((v, w)) = first_leaving(&joint) {
+        let from = game.id(v);
+        let to = game.id(w);
+        return Err(SolutionFault::Leaves(from, to));
     }
     if let Some(v) = least_bad_vertex(alloc, &kept)? {
         return Err(SolutionFault::Cycle(game.id(v)));
@@ -107,6 +109,7 @@ pub fn check_forward_solution(
     Ok(())
 }
 
+/// The least vertex that its winner owns and that has no choice.
 fn first_without_choice(candidate: &Candidate) -> Option<u32>
     ensures { MatchOption result (NoneHas (LacksChoice candidate.now.game.now candidate.now.solution.now.rows))
         (IsLeast (LacksChoice candidate.now.game.now candidate.now.solution.now.rows)) }
@@ -122,8 +125,7 @@ fn first_without_choice(candidate: &Candidate) -> Option<u32>
 /// Whether the vertex's winner owns it and it has no choice.
 fn lacks_choice(candidate: &Candidate, v: u32) -> bool
     requires { v < length candidate.now.game.now }
-    ensures lacks { result ≡ true → LacksChoice candidate.now.game.now candidate.now.solution.now.rows v }
-    ensures has { result ≡ false → LacksChoice candidate.now.game.now candidate.now.solution.now.rows v → ⊥ }
+    ensures { IsTrue result ↔ LacksChoice candidate.now.game.now candidate.now.solution.now.rows v }
 {
     let (winner, choice) = row_at(candidate.solution, v);
     candidate.game.owner(v) == winner && choice.is_none()
@@ -138,6 +140,7 @@ fn row_at(solution: &Solution, v: u32) -> (Player, Option<u32>)
     solution.rows.as_slice()[v as usize]
 }
 
+/// The least vertex that its winner owns and whose choice is no successor.
 fn first_bad_choice(candidate: &Candidate) -> Option<u32>
     ensures { MatchOption result (NoneHas (HasBadChoice candidate.now.game.now candidate.now.solution.now.rows))
         (IsLeast (HasBadChoice candidate.now.game.now candidate.now.solution.now.rows)) }
@@ -153,8 +156,7 @@ fn first_bad_choice(candidate: &Candidate) -> Option<u32>
 /// Whether the vertex's winner owns it and its choice is no successor.
 fn has_bad_choice(candidate: &Candidate, v: u32) -> bool
     requires { v < length candidate.now.game.now }
-    ensures bad { result ≡ true → HasBadChoice candidate.now.game.now candidate.now.solution.now.rows v }
-    ensures good { result ≡ false → HasBadChoice candidate.now.game.now candidate.now.solution.now.rows v → ⊥ }
+    ensures { IsTrue result ↔ HasBadChoice candidate.now.game.now candidate.now.solution.now.rows v }
 {
     let (winner, choice) = row_at(candidate.solution, v);
     if candidate.game.owner(v) != winner {
@@ -167,11 +169,14 @@ fn has_bad_choice(candidate: &Candidate, v: u32) -> bool
 }
 
 /// The kept edges of all winners, where each has his choices.
-fn plan_of<'g>(alloc: Global, candidate: &Candidate<'g>) -> Result<StrategyGraph<'g>, AllocError>
+fn joint_strategy<'g>(
+    alloc: Global,
+    candidate: &Candidate<'g>,
+) -> Result<StrategyGraph<'g>, AllocError>
     requires choices { NoneHas (LacksChoice candidate.now.game.now candidate.now.solution.now.rows) }
     requires right { NoneHas (HasBadChoice candidate.now.game.now candidate.now.solution.now.rows) }
     ensures game { IfOk result (λ k. k.game.now ≡ candidate.now.game.now) }
-    ensures plan { IfOk result (λ k. IsPlanOf k candidate.now.solution.now.rows) }
+    ensures joint { IfOk result (λ k. IsJointStrategy k candidate.now.solution.now.rows) }
     ensures bad_cycle { IfOk result (λ k. ((v w : ℕ) → Leaves candidate.now.game.now candidate.now.solution.now.rows v w → ⊥) → (v : ℕ)
         → IsOnBadCycle k v ↔ IsOnBadWalk candidate.now.game.now candidate.now.solution.now.rows v) }
 {
@@ -201,13 +206,14 @@ fn plan_of<'g>(alloc: Global, candidate: &Candidate<'g>) -> Result<StrategyGraph
     })
 }
 
-fn first_leaving(plan: &Plan) -> Option<(u32, u32)>
-    ensures first { MatchOption result ((v w : ℕ) → Leaves plan.now.kept.now.game.now plan.now.solution.now.rows v w → ⊥)
-        (λ e. IsFirstLeaving plan.now.kept.now.game.now plan.now.solution.now.rows e.0 e.1) }
-    ensures within { IfSome result (λ e. (e.0 < length plan.now.kept.now.game.now) × (e.1 < length plan.now.kept.now.game.now)) }
+/// The least vertex from which a kept edge leads to the other winner, and the least vertex to which one does.
+fn first_leaving(joint: &JointStrategy) -> Option<(u32, u32)>
+    ensures first { MatchOption result ((v w : ℕ) → Leaves joint.now.kept.now.game.now joint.now.solution.now.rows v w → ⊥)
+        (λ e. IsFirstLeaving joint.now.kept.now.game.now joint.now.solution.now.rows e.0 e.1) }
+    ensures within { IfSome result (λ e. (e.0 < length joint.now.kept.now.game.now) × (e.1 < length joint.now.kept.now.game.now)) }
 {
-    'vertices: for v in 0..plan.kept.game.len() {
-        if let Some(w) = leaves_to(plan, v) {
+    'vertices: for v in 0..joint.kept.game.len() {
+        if let Some(w) = leaves_to(joint, v) {
             return Some((v, w));
         }
     }
@@ -215,17 +221,17 @@ fn first_leaving(plan: &Plan) -> Option<(u32, u32)>
 }
 
 /// The least vertex of the other winner to which a kept edge leads from `v`.
-fn leaves_to(plan: &Plan, v: u32) -> Option<u32>
-    requires { v < length plan.now.kept.now.game.now }
-    ensures first { MatchOption result (NoneHas (LeavesTo plan.now.kept.now plan.now.solution.now.rows v))
-        (IsFirstTo plan.now.kept.now plan.now.solution.now.rows v) }
-    ensures within { IfSome result (λ w. w < length plan.now.kept.now.game.now) }
+fn leaves_to(joint: &JointStrategy, v: u32) -> Option<u32>
+    requires { v < length joint.now.kept.now.game.now }
+    ensures first { MatchOption result (NoneHas (LeavesTo joint.now.kept.now joint.now.solution.now.rows v))
+        (IsFirstTo joint.now.kept.now joint.now.solution.now.rows v) }
+    ensures within { IfSome result (λ w. w < length joint.now.kept.now.game.now) }
 {
     // for the proof: the graph is a game, so successors rise
-    let _n = plan.kept.game.len();
-    let winner = row_at(plan.solution, v).0;
-    'row: for w in plan.kept.row(v) {
-        if row_at(plan.solution, *w).0 != winner {
+    let _n = joint.kept.game.len();
+    let winner = row_at(joint.solution, v).0;
+    'row: for w in joint.kept.row(v) {
+        if row_at(joint.solution, *w).0 != winner {
             return Some(*w);
         }
     }

@@ -2,6 +2,8 @@ pub mod Part
 pub mod Finding
 pub mod Claims
 pub mod Small
+pub mod Run
+pub mod Steps
 pub mod Recursion
 pub mod Jobs
 pub mod private

@@ -3,22 +3,23 @@
 //! each player, in the order of settling. A step takes time in what it attracts and makes active again. A caller may bound the
 //! number of subgames that are begun, which is exponential on some games.
 
-ghost use Rattle.std.specs.Prelude.{◌≡◌, length, IfOk, ◌≢◌, ◌≤◌, ◌<◌, ◌^◌, drop, take, ◌||◌, ℕ, All, ◌++◌, ◌∷◌, [], OnOk, true, false};
+ghost use Rattle.std.specs.Prelude.{◌≡◌, length, IfOk, ◌≢◌, ◌≤◌, ◌+◌, ◌<◌, ◌^◌, drop, take, ◌||◌, ℕ, All, ◌++◌, ◌∷◌, [], OnOk, true, false};
 ghost use Rattle.std.specs.Prelude.{None, Some, IsNone, IsSome, IfSome};
 ghost use Rattle.pg_game.specs.declared.player.Player.TheVariants.{Even, Odd};
 ghost use Rattle.pg_game.specs.VertexSet.{In, members, union};
 ghost use Rattle.pg_finders.specs.private.Solved.{won_inside, IsSolvedInside};
-ghost use Rattle.pg_finders.specs.private.recursion.Planned.{winners_of, choices_of, HasSize, size};
+ghost use Rattle.pg_finders.specs.private.recursion.Plans.{winners_of, choices_of, HasSize};
 ghost use Rattle.pg_finders.specs.Claims.{AreClaims, own_choices, rows_below};
 ghost use Rattle.pg_game.specs.Subgame.{IsSubgame};
 ghost use Rattle.pg_finders.specs.private.recursion.Listed.{listed};
-ghost use Rattle.pg_finders.specs.private.recursion.Growing.{active_of, IsReady, IsKnown, IsGrown, AttractsNoActive, AttractsAtMost};
+ghost use Rattle.pg_finders.specs.private.recursion.TakenVertices.{active_of, IsReady, IsKnown, HasTaken, AttractsNoActive, AttractsAtMost};
 ghost use Rattle.pg_game.specs.Player.{opponent};
 ghost use Rattle.std.specs.Borrow.{sem};
 ghost use Rattle.pg_finders.specs.private.recursion.Settled.{settled_of, LendsList};
-ghost use Rattle.pg_finders.specs.private.recursion.UnderWay.{count_at};
-ghost use Rattle.pg_finders.specs.private.recursion.Running.{IsRunning, how_many_gone, with_active, work, AreFewer, after_step};
+ghost use Rattle.pg_finders.specs.private.recursion.OpenLevels.{count_at};
+ghost use Rattle.pg_finders.specs.private.recursion.SolverState.{IsSolverState, how_many_gone, with_active, AreFewer, after_step, number_left};
 ghost use Rattle.pg_finders.specs.Recursion.{IfSolved, IfRunning};
+ghost use Rattle.pg_finders.specs.Steps.{size, steps as most_steps, work};
 ghost use Rattle.std.specs.Arc.{arc_value};
 ghost use Rattle.pg_game.specs.private.VertexSet.{without};
 
@@ -46,21 +47,16 @@ pub struct Solved {
 pub fn zielonka(alloc: Global, inside: &Inside) -> Result<Solved, Memory>
     ensures { IfOk result (λ solved. AreClaims inside.now.graph (members inside.now.mask) solved.even solved.odd) }
 {
-    Ok(solve_up_to(alloc, inside, None)?.unwrap())
+    Ok(zielonka_within(alloc, inside, None)?.unwrap())
 }
 
-/// The same as `zielonka`, unless it needs more steps than these: then it gives up, and there are no claims. A step begins a
-/// subgame that has a vertex. If no vertex is inside, it needs none, and otherwise at least one.
-pub fn zielonka_within(alloc: Global, inside: &Inside, steps: u64) -> Result<Option<Solved>, Memory>
-    ensures claims { IfOk result (λ found. IfSome found (λ solved. AreClaims inside.now.graph (members inside.now.mask) solved.even solved.odd)) }
-    ensures nothing { IfOk result (λ found. ((v : ℕ) → members inside.now.mask v ≡ false) → IsSome found) }
-    ensures no_steps { IfOk result (λ found. steps ≡ 0 → (v : ℕ) → In (members inside.now.mask) v → IsNone found) }
-{
-    solve_up_to(alloc, inside, Some(steps))
-}
-
-/// The two claims; none if there is a limit and the recursion needs more steps.
-fn solve_up_to(alloc: Global, inside: &Inside, limit: Option<u64>) -> Result<Option<Solved>, Memory>
+/// The same as `zielonka`, unless there is a limit and it needs more steps: then it gives up, and there are no claims. A step begins
+/// a subgame that has a vertex. If no vertex is inside, it needs none, and otherwise at least one.
+pub fn zielonka_within(
+    alloc: Global,
+    inside: &Inside,
+    limit: Option<u64>,
+) -> Result<Option<Solved>, Memory>
     ensures claims { IfOk result (λ found. IfSome found (λ solved. AreClaims inside.now.graph (members inside.now.mask) solved.even solved.odd)) }
     ensures unlimited { IfOk result (λ found. limit ≡ None → IsSome found) }
     ensures nothing { IfOk result (λ found. ((v : ℕ) → members inside.now.mask v ≡ false) → IsSome found) }
@@ -100,18 +96,19 @@ impl Model for Recursion {
     ghost use Rattle.std.specs.Arc.{arc_value};
     ghost use Rattle.pg_game.specs.VertexSet.{members};
     ghost use Rattle.pg_game.specs.Subgame.{IsSubgame};
-    ghost use Rattle.pg_finders.specs.Part.{Part};
-    ghost use Rattle.pg_finders.specs.private.recursion.Running.{IsRunning};
+    ghost use Rattle.pg_finders.specs.Run.{Run};
+    ghost use Rattle.pg_finders.specs.Steps.{size as mask_size, work};
+    ghost use Rattle.pg_finders.specs.private.recursion.SolverState.{IsSolverState};
 
-    ghost Value = { Part };
+    ghost Value = { Run };
 
-    ghost view = { λ r. record { graph = arc_value r.game; mask = r.mask } };
+    ghost view = { λ r. record { graph = arc_value r.game; mask = r.mask; remaining = work (mask_size r.mask) r.solver r.solver.frames.items } };
 
     ghost invariant = { λ r. IsSubgame (arc_value r.game) (members r.mask)
-        × IsRunning (arc_value r.game) r.mask r.solver r.solver.frames.items };
+        × IsSolverState (arc_value r.game) r.mask r.solver r.solver.frames.items };
 }
 
-/// What a run of the recursion has come to.
+/// What a run of the recursion has come to. It has no `Debug`, since neither a run nor a claim has one.
 #[derive(Drop)]
 pub enum Advanced {
     /// Steps remain.
@@ -127,6 +124,7 @@ impl Recursion {
         requires subgame { IsSubgame (arc_value game.now) (members mask) }
         ensures graph { IfOk result (λ r. r.graph ≡ arc_value game.now) }
         ensures mask { IfOk result (λ r. r.mask ≡ mask) }
+        ensures remaining { IfOk result (λ r. r.remaining ≤ most_steps (length mask)) }
     {
         let view = View { game, mask: &mask };
         let solver = Solver::new(alloc, &view)?;
@@ -138,10 +136,11 @@ impl Recursion {
     }
 
     /// Takes up to so many steps, and leaves how many of them are left. A step begins a subgame that has a vertex. Returns the claims
-    /// of `zielonka` once no step remains to be taken. The only error is `Memory`.
+    /// of `zielonka` once no step remains to be taken. Else what remains has fallen by as many steps. The only error is `Memory`.
     pub fn advance(self, alloc: Global, steps: &mut u64) -> Result<Advanced, Memory>
         ensures solved { IfOk result (λ a. IfSolved a (λ solved. AreClaims self.graph (members self.mask) solved.even solved.odd)) }
-        ensures running { IfOk result (λ a. IfRunning a (λ r. (r ≡ self) × (steps.new ≡ 0))) }
+        ensures running { IfOk result (λ a. IfRunning a (λ r. (r.graph ≡ self.graph) × (r.mask ≡ self.mask) × (steps.new ≡ 0))) }
+        ensures nearer { IfOk result (λ a. IfRunning a (λ r. r.remaining + steps.old ≤ self.remaining)) }
         ensures steps { steps.new ≤ steps.old }
     {
         let Recursion { game, mask, solver } = self;
@@ -176,8 +175,9 @@ struct Solver {
 impl Solver {
     /// No vertex is settled yet.
     fn new(alloc: Global, view: &View) -> Result<Solver, Memory>
-        ensures running { IfOk result (λ solver. IsRunning view.now.game.now view.now.mask.now solver solver.frames.items) }
+        ensures running { IfOk result (λ solver. IsSolverState view.now.game.now view.now.mask.now solver solver.frames.items) }
         ensures active { IfOk result (λ solver. solver.subgame.active ≡ view.now.mask.now) }
+        ensures work { IfOk result (λ solver. work (size view.now.mask.now) solver solver.frames.items ≤ most_steps (length view.now.mask.now)) }
     {
         // Capacities are for all vertices that a list may get, as far as this is known. If a list outgrows a block below a KiB, the
         // allocator of glibc keeps that block, and does not return the memory below it to the system.
@@ -215,13 +215,15 @@ impl Solver {
         view: &View,
         left: &mut Option<u64>,
     ) -> Result<Option<Solved>, Memory>
-        requires { IsRunning view.now.game.now view.now.mask.now self.old self.old.frames.items }
+        requires { IsSolverState view.now.game.now view.now.mask.now self.old self.old.frames.items }
         ensures claims { IfOk result (λ found. IfSome found (λ solved. AreClaims view.now.game.now (members view.now.mask.now) solved.even solved.odd)) }
-        ensures running { IfOk result (λ found. IsNone found → IsRunning view.now.game.now view.now.mask.now self.new self.new.frames.items) }
+        ensures running { IfOk result (λ found. IsNone found → IsSolverState view.now.game.now view.now.mask.now self.new self.new.frames.items) }
         ensures fewer { AreFewer left.old left.new }
         ensures unlimited { IfOk result (λ found. left.old ≡ None → IsSome found) }
         ensures all { IfOk result (λ found. IsNone found → left.new ≡ Some 0) }
         ensures no_steps { IfOk result (λ found. left.old ≡ Some 0 → (v : ℕ) → In (active_of self.old.subgame) v → IsNone found) }
+        ensures spends { IfOk result (λ found. IsNone found → work (size view.now.mask.now) self.new self.new.frames.items + number_left left.old
+            ≤ work (size view.now.mask.now) self.old self.old.frames.items) }
     {
         if !self.run(view, left)? {
             return Ok(None);
@@ -238,18 +240,20 @@ impl Solver {
 
     /// Takes the steps that are left, or all where there is no limit. False if one more was needed; if true, the whole mask is planned.
     fn run(&mut self, view: &View, left: &mut Option<u64>) -> Result<bool, Memory>
-        requires { IsRunning view.now.game.now view.now.mask.now self.old self.old.frames.items }
+        requires { IsSolverState view.now.game.now view.now.mask.now self.old self.old.frames.items }
         ensures solved { IfOk result (λ done. done ≡ true
             → IsSolvedInside view.now.game.now (members view.now.mask.now) (winners_of self.new.subgame.plan) (choices_of self.new.subgame.plan)) }
         ensures size { IfOk result (λ done. done ≡ true → HasSize (length view.now.game.now) self.new.subgame.plan) }
-        ensures running { IfOk result (λ done. done ≡ false → IsRunning view.now.game.now view.now.mask.now self.new self.new.frames.items) }
+        ensures running { IfOk result (λ done. done ≡ false → IsSolverState view.now.game.now view.now.mask.now self.new self.new.frames.items) }
         ensures fewer { AreFewer left.old left.new }
         ensures unlimited { IfOk result (λ done. left.old ≡ None → done ≡ true) }
         ensures all { IfOk result (λ done. done ≡ false → left.new ≡ Some 0) }
         ensures no_steps { IfOk result (λ done. left.old ≡ Some 0 → (v : ℕ) → In (active_of self.old.subgame) v → done ≡ false) }
+        ensures spends { IfOk result (λ done. done ≡ false → work (size view.now.mask.now) self.new self.new.frames.items + number_left left.old
+            ≤ work (size view.now.mask.now) self.old self.old.frames.items) }
     {
         'steps: loop {
-            if !self.may_enter(view, left) {
+            if !self.spend_step(view, left) {
                 return Ok(false);
             }
             if self.enter(view)? {
@@ -264,12 +268,14 @@ impl Solver {
     }
 
     /// Takes one of the steps that are left, if a vertex is active. False if none is left.
-    fn may_enter(&self, view: &View, left: &mut Option<u64>) -> bool
-        requires { IsRunning view.now.game.now view.now.mask.now self.now self.now.frames.items }
+    fn spend_step(&self, view: &View, left: &mut Option<u64>) -> bool
+        requires { IsSolverState view.now.game.now view.now.mask.now self.now self.now.frames.items }
         ensures fewer { AreFewer left.old left.new }
         ensures unlimited { left.old ≡ None → result ≡ true }
         ensures none { left.old ≡ Some 0 → (v : ℕ) → In (active_of self.now.subgame) v → result ≡ false }
         ensures all { result ≡ false → left.new ≡ Some 0 }
+        ensures one { number_left left.old ≤ 1 + number_left left.new }
+        ensures none_left { result ≡ false → number_left left.old ≡ 0 }
     {
         !self.has_more(view) || take_step(left)
     }
@@ -277,8 +283,8 @@ impl Solver {
     /// Begins the active part: sets aside its greatest vertices of one parity and what they attract. False if nothing is
     /// active.
     fn enter(&mut self, view: &View) -> Result<bool, Memory>
-        requires { IsRunning view.now.game.now view.now.mask.now self.old self.old.frames.items }
-        ensures running { OnOk result (IsRunning view.now.game.now view.now.mask.now self.new self.new.frames.items) }
+        requires { IsSolverState view.now.game.now view.now.mask.now self.old self.old.frames.items }
+        ensures running { OnOk result (IsSolverState view.now.game.now view.now.mask.now self.new self.new.frames.items) }
         ensures fewer { IfOk result (λ entered. entered ≡ true
             → work (size view.now.mask.now) self.new self.new.frames.items < work (size view.now.mask.now) self.old self.old.frames.items) }
         ensures same { IfOk result (λ entered. entered ≡ false
@@ -312,7 +318,7 @@ impl Solver {
 
     /// Whether a vertex is neither settled nor set aside. Such a vertex is active.
     fn has_more(&self, view: &View) -> bool
-        requires { IsRunning view.now.game.now view.now.mask.now self.now self.now.frames.items }
+        requires { IsSolverState view.now.game.now view.now.mask.now self.now self.now.frames.items }
         ensures { result ≡ false → (v : ℕ) → active_of self.now.subgame v ≡ false }
     {
         // for the proof: there are so few vertices that the numbers listed add up without overflow
@@ -330,26 +336,26 @@ impl Solver {
 
     /// Finishes the subgame that waits there, which has no active vertex.
     fn leave(&mut self, view: &View, frame: Frame) -> Result<(), Memory>
-        requires running { IsRunning view.now.game.now view.now.mask.now self.old (self.old.frames.items ++ frame ∷ []) }
+        requires running { IsSolverState view.now.game.now view.now.mask.now self.old (self.old.frames.items ++ frame ∷ []) }
         requires done { (v : ℕ) → active_of self.old.subgame v ≡ false }
-        ensures running { OnOk result (IsRunning view.now.game.now view.now.mask.now self.new self.new.frames.items) }
+        ensures running { OnOk result (IsSolverState view.now.game.now view.now.mask.now self.new self.new.frames.items) }
         ensures fewer { OnOk result (work (size view.now.mask.now) self.new self.new.frames.items < work (size view.now.mask.now) self.old
             (self.old.frames.items ++ frame ∷ [])) }
     {
         let other = frame.player.other();
         if self.settled.count(other) == frame.count(other) {
-            self.settle(view, frame)
+            self.close(view, frame)
         } else {
             self.resume(view, frame)
         }
     }
 
     /// Settles the subgame that waits there for its player, who won its whole rest.
-    fn settle(&mut self, view: &View, frame: Frame) -> Result<(), Memory>
-        requires running { IsRunning view.now.game.now view.now.mask.now self.old (self.old.frames.items ++ frame ∷ []) }
+    fn close(&mut self, view: &View, frame: Frame) -> Result<(), Memory>
+        requires running { IsSolverState view.now.game.now view.now.mask.now self.old (self.old.frames.items ++ frame ∷ []) }
         requires done { (v : ℕ) → active_of self.old.subgame v ≡ false }
         requires all { length (settled_of self.old.settled (opponent frame.player)) ≡ count_at frame (opponent frame.player) }
-        ensures running { OnOk result (IsRunning view.now.game.now view.now.mask.now self.new self.new.frames.items) }
+        ensures running { OnOk result (IsSolverState view.now.game.now view.now.mask.now self.new self.new.frames.items) }
         ensures fewer { OnOk result (work (size view.now.mask.now) self.new self.new.frames.items < work (size view.now.mask.now) self.old
             (self.old.frames.items ++ frame ∷ [])) }
     {
@@ -362,10 +368,10 @@ impl Solver {
     /// Removes from the subgame that waits there what the opponent won and attracts, and makes the others active. What he
     /// won stays in its list: of the others only those set aside may lead to it.
     fn resume(&mut self, view: &View, frame: Frame) -> Result<(), Memory>
-        requires running { IsRunning view.now.game.now view.now.mask.now self.old (self.old.frames.items ++ frame ∷ []) }
+        requires running { IsSolverState view.now.game.now view.now.mask.now self.old (self.old.frames.items ++ frame ∷ []) }
         requires done { (v : ℕ) → active_of self.old.subgame v ≡ false }
         requires some { length (settled_of self.old.settled (opponent frame.player)) ≢ count_at frame (opponent frame.player) }
-        ensures running { OnOk result (IsRunning view.now.game.now view.now.mask.now self.new self.new.frames.items) }
+        ensures running { OnOk result (IsSolverState view.now.game.now view.now.mask.now self.new self.new.frames.items) }
         ensures fewer { OnOk result (work (size view.now.mask.now) self.new self.new.frames.items < work (size view.now.mask.now) self.old
             (self.old.frames.items ++ frame ∷ [])) }
     {
@@ -462,6 +468,7 @@ impl Settled {
         }
     }
 
+    /// The player's vertices, to be changed.
     fn list_mut(&mut self, player: Player) -> &mut Vec<u32>
         ensures* lends { sem 𝓛 (LendsList self.entry player result) }
         ensures items { result.now.items ≡ settled_of self.old player }
@@ -505,7 +512,7 @@ impl Settled {
         requires below { All (λ v. v < length view.now.game.now) set_aside.now }
         requires at_most { AttractsAtMost view.now.game.now player (active_of subgame.old) (settled_of self.old player) (drop from set_aside.now) }
         ensures ready { OnOk result (IsReady (length view.now.game.now) subgame.new (settled_of self.new player)) }
-        ensures grown { OnOk result (IsGrown view.now.game.now player (active_of subgame.old) subgame.old.plan (settled_of self.old player)
+        ensures grown { OnOk result (HasTaken view.now.game.now player (active_of subgame.old) subgame.old.plan (settled_of self.old player)
             (active_of subgame.new) subgame.new.plan (settled_of self.new player)) }
         ensures done { OnOk result (AttractsNoActive view.now.game.now player (union (active_of subgame.old) (listed (settled_of self.old player)))
             (listed (settled_of self.new player)) (active_of subgame.new)) }
@@ -527,6 +534,8 @@ impl Settled {
 /// Takes one of the steps that are left. False if none is left; without a limit one always is.
 fn take_step(left: &mut Option<u64>) -> bool
     ensures one { left.new ≡ after_step left.old }
+    ensures at_most_one { number_left left.old ≤ 1 + number_left left.new }
+    ensures none_left { result ≡ false → number_left left.old ≡ 0 }
     ensures none { left.old ≡ Some 0 → result ≡ false }
     ensures all { result ≡ false → left.old ≡ Some 0 }
 {

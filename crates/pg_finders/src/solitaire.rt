@@ -9,7 +9,7 @@ ghost use Rattle.pg_game.specs.VertexSet.{In, members};
 ghost use Rattle.pg_game.specs.Graph.{owner_of, priority_of};
 ghost use Rattle.pg_dominion.specs.Claim.{IsGoodIn};
 ghost use Rattle.pg_finders.specs.Part.{IsOut};
-ghost use Rattle.pg_finders.specs.private.recursion.Planned.{HoldsSet};
+ghost use Rattle.pg_finders.specs.private.recursion.Plans.{HoldsSet};
 ghost use Rattle.pg_finders.specs.Claims.{own_choices, rows_below};
 ghost use Rattle.pg_finders.specs.Finding.{HasOneSuccessor, IsSolitaire};
 ghost use Rattle.pg_finders.specs.private.solitaire.Solitaire.{HasOneAt, IsSingle, owned, good_for, choices_by, EdgeBelow, AreLeading, IsSeen};

@@ -1,5 +1,6 @@
 pub mod Common
 pub mod Members
+pub mod AllElements
 pub mod Attract
 pub mod Walks
 pub mod Disjoint

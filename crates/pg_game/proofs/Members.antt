@@ -1,5 +1,6 @@
 -- Membership in a list, by cases on the list; a search in a list.
-use Rattle.pg_game.proofs.Common.{◌≡◌, ℕ, zero, suc, Bool, true, false, ◌⊎◌, inl, inr, List, [], ◌∷◌, refl, arith, rules, Contains}
+use Rattle.pg_game.proofs.Common.{◌≡◌, ℕ, zero, suc, Bool, true, false, ◌⊎◌, inl, inr, List, [], ◌∷◌, refl, subst, arith, rules, Contains}
+use Rattle.pg_game.proofs.Common.{nat_eq, eqb-true, eq-eqb}
 
 pub Contains-nil : (w : ℕ) → Contains [] w → ⊥
 Contains-nil w (k, lt, e) = omega arith
@@ -28,3 +29,10 @@ some_or_none-cons test x xs false e (inr none) = inr (λ w m. elim (Contains-con
 pub some_or_none : (test : ℕ → Bool) (ws : List ℕ) → SomeOrNone test ws
 some_or_none test [] = inr (λ w m. absurd (Contains-nil w m))
 some_or_none test (x ∷ xs) = some_or_none-cons test x xs (test x) refl (some_or_none test xs)
+
+-- a list has the number or does not
+pub contains_or_not : (ws : List ℕ) (w : ℕ) → Contains ws w ⊎ (Contains ws w → ⊥)
+contains_or_not ws w = elim (some_or_none (λ x. nat_eq x w) ws) [
+  | inl (x, m, t) ↦ inl (subst (Contains ws) (eqb-true x w t) m)
+  | inr none ↦ inr (λ m. let e : nat_eq w w ≡ true = eq-eqb w w refl in cc (e, none w m))
+]

@@ -195,7 +195,7 @@ impl IncrementalBuilder {
     }
 
     /// The specifications, without the successors of the open one.
-    pub fn finish(self) -> GameBuilder
+    pub fn into_builder(self) -> GameBuilder
         ensures { result ≡ self.specs }
     {
         let IncrementalBuilder {
@@ -240,9 +240,10 @@ impl GameBuilder {
         ensures once { OnOk result (first_repeated [] (ids_of self.now) ≡ None) }
         ensures fault { IfErr result (λ e. OrMemory (twice_of (ids_of self.now) ≡ Some e) e) }
     {
-        let ids = identifiers_of(alloc, lines)?;
-        self.check_distinct(alloc, ids.as_slice())?;
-        Identifiers::of_rising(alloc, ids.as_slice())
+        let list = identifiers_of(alloc, lines)?;
+        let ids = list.as_slice();
+        self.check_distinct(alloc, ids)?;
+        Identifiers::of_rising(alloc, ids)
     }
 
     /// Refuses specifications of which two have one identifier: by the first that is earlier in the list, or by `Memory`. So

@@ -1,12 +1,12 @@
 //! Parity games in the terms of PGSolver's manual: how specifications become one, and its look-ups. Vertices go by rising
 //! identifier. A `ForwardGame` has successors alone, and a `Game` has predecessors too.
 
-ghost use Rattle.std.specs.Prelude.{◌≡◌, ◌<◌, ◌≤◌, ◌^◌, ◌↔◌, ℕ, length, slice_index, IfOk, IsTrue, IfErr, IfSome, IfNone, All, Some, None};
+ghost use Rattle.std.specs.Prelude.{◌≡◌, ◌<◌, ◌^◌, ◌↔◌, ℕ, length, slice_index, IfOk, IsTrue, IfErr, IfSome, IfNone, All, Some, None};
 ghost use Rattle.pg_game.specs.Predecessors.{ArePredecessors};
 ghost use Rattle.std.specs.List.Sorted.{IsStrictlyIncreasing};
-ghost use Rattle.pg_game.specs.Specification.{AreNumbers, IsGameOf, first_fault, OrMemory, max_vertices};
+ghost use Rattle.pg_game.specs.Specification.{AreNumbers, IsGameOf, first_fault, OrMemory};
 ghost use Rattle.pg_game.specs.private.Identifiers.{ids_of, priorities_of, owners_of, successor_lists};
-ghost use Rattle.pg_game.specs.private.Stored.{IsStored};
+ghost use Rattle.pg_game.specs.private.Stored.{AreWithinLimits, IsStored};
 ghost use Rattle.pg_game.specs.View.{graph_of};
 ghost use Rattle.pg_game.specs.Limits.{IsWithinLimits};
 ghost use Rattle.pg_game.specs.Graph.{IsGame, id_of, priority_of, owner_of, successors_of, HasEdge};
@@ -47,7 +47,7 @@ impl Game {
     {
         let flat = GameBuilder::of_list(alloc, specs.as_slice())?;
         drop(specs);
-        let forward = ForwardGame::from_rows(alloc, flat)?;
+        let forward = ForwardGame::from_builder(alloc, flat)?;
         Ok(Game::of_forward(alloc, forward)?)
     }
 
@@ -201,7 +201,7 @@ impl Model for ForwardGame {
 impl ForwardGame {
     /// The game of these specifications, whose vertices go by rising identifier. Where the identifiers are 0, 1 and so on and
     /// successors rise, the lists are the game's. Refused by the first fault, or by `Memory`.
-    pub fn from_rows(alloc: Global, specs: GameBuilder) -> Result<ForwardGame, GameFault>
+    pub fn from_builder(alloc: Global, specs: GameBuilder) -> Result<ForwardGame, GameFault>
         requires { All AreNumbers specs }
         ensures game { IfOk result (λ g. IsGame g × IsGameOf specs g × (first_fault specs ≡ None)) }
         ensures fault { IfErr result (λ e. OrMemory (first_fault specs ≡ Some e) e) }
@@ -295,10 +295,14 @@ impl ForwardGame {
         if !self.identifiers.is_same(&other.identifiers) {
             return false;
         }
-        if self.priorities.as_slice() != other.priorities.as_slice() {
+        let priorities = self.priorities.as_slice();
+        let other_priorities = other.priorities.as_slice();
+        if priorities != other_priorities {
             return false;
         }
-        if self.owners.as_slice() != other.owners.as_slice() {
+        let owners = self.owners.as_slice();
+        let other_owners = other.owners.as_slice();
+        if owners != other_owners {
             return false;
         }
         self.successors.is_same(&other.successors)
@@ -320,9 +324,7 @@ impl Drop for ForwardGame {
 impl GameBuilder {
     /// The game where identifiers rise. Where they are 0, 1 and so on and each row rises, the lists are used unchanged.
     fn game_in_order(self, alloc: Global) -> Result<ForwardGame, GameFault>
-        requires numbers { All AreNumbers self }
-        requires some { 0 < length self }
-        requires few { length self ≤ max_vertices }
+        requires limits { AreWithinLimits self }
         requires rising { IsStrictlyIncreasing (ids_of self) }
         ensures game { IfOk result (λ g. IsGame g × IsGameOf self g × (first_fault self ≡ None)) }
         ensures fault { IfErr result (λ e. OrMemory (first_fault self ≡ Some e) e) }
@@ -334,16 +336,15 @@ impl GameBuilder {
 
     /// The game of specifications in any order, which are sorted by identifier.
     fn game_by_sorting(self, alloc: Global) -> Result<ForwardGame, GameFault>
-        requires numbers { All AreNumbers self }
-        requires some { 0 < length self }
-        requires few { length self ≤ max_vertices }
+        requires { AreWithinLimits self }
         ensures game { IfOk result (λ g. IsGame g × IsGameOf self g × (first_fault self ≡ None)) }
         ensures fault { IfErr result (λ e. OrMemory (first_fault self ≡ Some e) e) }
     {
-        let lines = self.sorted_lines(alloc)?;
-        let identifiers = self.distinct_identifiers(alloc, lines.as_slice())?;
+        let list = self.sorted_lines(alloc)?;
+        let lines = list.as_slice();
+        let identifiers = self.distinct_identifiers(alloc, lines)?;
         let resolved = self.resolved(alloc, &identifiers)?;
-        let sorted = resolved.picked(alloc, lines.as_slice())?;
+        let sorted = resolved.picked(alloc, lines)?;
         Ok(sorted.into_game(identifiers))
     }
 

@@ -19,7 +19,7 @@ use std::marker::Model;
 /// Rising identifiers.
 #[derive(Drop)]
 pub struct Identifiers {
-    kind: Kind,
+    storage: Storage,
 }
 
 impl Model for Identifiers {
@@ -28,9 +28,9 @@ impl Model for Identifiers {
 
     ghost Value = { List ℕ };
 
-    ghost view = { λ n. names_of n.kind };
+    ghost view = { λ n. names_of n.storage };
 
-    ghost invariant = { λ n. AreNames (names_of n.kind) };
+    ghost invariant = { λ n. AreNames (names_of n.storage) };
 }
 
 impl Identifiers {
@@ -42,12 +42,12 @@ impl Identifiers {
     {
         if are_own_places(ids) {
             return Ok(Identifiers {
-                kind: Kind::Own(ids.len() as u32),
+                storage: Storage::Own(ids.len() as u32),
             });
         }
         let set = index_set(alloc, ids)?;
         Ok(Identifiers {
-            kind: Kind::Listed(set),
+            storage: Storage::Listed(set),
         })
     }
 
@@ -56,9 +56,9 @@ impl Identifiers {
     pub fn len(&self) -> u32
         ensures { result ≡ length self.now }
     {
-        match &self.kind {
-            Kind::Own(count) => *count,
-            Kind::Listed(ids) => ids.len() as u32,
+        match &self.storage {
+            Storage::Own(count) => *count,
+            Storage::Listed(ids) => ids.len() as u32,
         }
     }
 
@@ -68,9 +68,9 @@ impl Identifiers {
         requires { v < length self.now }
         ensures { result ≡ slice_index self.now v }
     {
-        match &self.kind {
-            Kind::Own(_) => v,
-            Kind::Listed(ids) => ids.as_slice()[v as usize],
+        match &self.storage {
+            Storage::Own(_) => v,
+            Storage::Listed(ids) => ids.as_slice()[v as usize],
         }
     }
 
@@ -95,9 +95,9 @@ impl Identifiers {
         ensures found { IfSome result (λ v. (v < length self.now) × (slice_index self.now v ≡ id)) }
         ensures missing { IfNone result ((v : ℕ) → v < length self.now → slice_index self.now v ≡ id → ⊥) }
     {
-        match &self.kind {
-            Kind::Own(count) => { if id < *count { Some(id) } else { None } }
-            Kind::Listed(ids) => match ids.get_index_of(&id) {
+        match &self.storage {
+            Storage::Own(count) => { if id < *count { Some(id) } else { None } }
+            Storage::Listed(ids) => match ids.get_index_of(&id) {
                 Some(v) => Some(v as u32),
                 None => None,
             },
@@ -123,7 +123,7 @@ pub fn index_set(alloc: Global, ids: &[u32]) -> Result<IndexSet<u32, Seeded>, Ga
 }
 
 #[derive(Drop)]
-enum Kind {
+enum Storage {
     /// 0, 1 and so on, this many.
     Own(u32),
     /// Any others, sorted.

@@ -7,7 +7,7 @@ use Rattle.std.specs.Prelude.{decimal}
 use Rattle.std.specs.Int.Digits.{digits_of}
 use Rattle.std.proofs.lemmas.Fmt.{decimal_by_steps_wide}
 use Rattle.std.proofs.lemmas.Int.Digits.{digits_of_step}
-use Rattle.pg_text.proofs.lexer.ByteRuns.{all-append, value-push}
+use Rattle.pg_text.proofs.lexer.ByteRuns.{AllAre-append, value-push}
 
 -- the numeral of a number that is not zero
 by_digits : (n : ℕ) → 0 < n → numeral n ≡ map (λ d. 48 + d) (digits_of 10 n)
@@ -59,7 +59,7 @@ numeral_spells = numeral_by_steps IsNumeral
     let e = value-push ds (48 + m % 10) in
     let f = d.2 in
     let g = length-append ds ((48 + m % 10) ∷ []) in
-    (omega arith, all-append is_digit ds ((48 + m % 10) ∷ []) d.1 (grind (arith, nat_tests), tt), omega arith))
+    (omega arith, AllAre-append is_digit ds ((48 + m % 10) ∷ []) d.1 (grind (arith, nat_tests), tt), omega arith))
 
 -- a number below ten to the k has at most k digits
 pub length-numeral : (k n : ℕ) → 0 < k → n < 10 ^ k → length (numeral n) ≤ k

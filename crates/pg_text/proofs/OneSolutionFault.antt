@@ -50,15 +50,16 @@ one_lines ts ls ks (h, i) (k, j) =
 -- a winner inside lines whose winners are 0 and 1, and what follows them, is 0 or 1
 inner_winner : (xs m : List Token) (n : ℕ) (k : Option ℕ) (ls : List WrittenSolutionLine) (more : List Token) → IsBeforeWinner xs → AreWinners ls
     → length more ≤ 1 → Avoids (codes "paritysol") more → xs ++ token.Number n ∷ m ≡ solution_tokens k ls ++ more → n < 2
-inner_winner xs m n k ls more (h, ks, i, o, x) won short a e =
-    let stem : List Token = token.Number i ∷ [] in
-    let f : headed (codes "paritysol") h ++ (flat_map solution_line_tokens ks ++ (stem ++ token.Number n ∷ m))
-    ≡ headed (codes "paritysol") k ++ (flat_map solution_line_tokens ls ++ more) = search (rules, append_assoc) in
-    player_small solution_line_tokens first front (λ l. l.winner) stem m n (λ l us g. cc g) (λ l. omega arith) more short ks ls
-    (behind h k ks ls (stem ++ token.Number n ∷ m) more (λ us g. cc g) a f) won
+inner_winner xs m n k ls more x won short a e =
+    let stem : List Token = token.Number x.id ∷ [] in
+    let f : headed (codes "paritysol") x.header ++ (flat_map solution_line_tokens x.earlier ++ (stem ++ token.Number n ∷ m))
+    ≡ headed (codes "paritysol") k ++ (flat_map solution_line_tokens ls ++ more) = search (rules, append_assoc, x.tokens) in
+    player_small solution_line_tokens first front (λ l. l.winner) stem m n (λ l us g. cc g) (λ l. omega arith) more short x.earlier ls
+    (behind x.header k x.earlier ls (stem ++ token.Number n ∷ m) more (λ us g. cc g) a f) won
 
 later_winner : (xs ys m : List Token) (n : ℕ) → IsBeforeWinner xs → IsBeforeWinner ys → ys ≡ xs ++ token.Number n ∷ m → n < 2
-later_winner xs ys m n a (h, ls, i, o, y) e = inner_winner xs m n h ls (token.Number i ∷ []) a o (omega arith) (λ us g. cc g) (sym e ∙ y)
+later_winner xs ys m n a y e =
+    inner_winner xs m n y.header y.earlier (token.Number y.id ∷ []) a y.winners (omega arith) (λ us g. cc g) (sym e ∙ y.tokens)
 
 winner_once : (text : List ℕ) (a b : ℕ) → IsPlayerFault IsSomeSolutionText IsBeforeWinner text a
     → IsPlayerFault IsSomeSolutionText IsBeforeWinner text b → a ≡ b
@@ -67,11 +68,13 @@ winner_once = player_once BeginsSolutionText IsSomeSolutionText IsBeforeWinner s
 -- a wrong winner is in no text whose winners are 0 and 1
 winner_or_lines : (text : List ℕ) (a : ℕ) (us : List Placed) (lines : List WrittenSolutionLine) → IsPlayerFault IsSomeSolutionText IsBeforeWinner text a
     → Spells 0 text us → IsSolutionText (tokens_of us) lines → AreWinners lines → ⊥
-winner_or_lines text a us lines (ts, s, g, f, (b1, a1, t1, n1, e1, p1, y1, k1, c1)) z (h, w) o =
-    let d : tokens_of us ≡ tokens_of b1 ++ token.Number n1 ∷ tokens_of a1 = ap tokens_of (one_spelling 0 text us ts z s ∙ e1) ∙ tokens_at b1 a1 t1 n1 k1 in
+winner_or_lines text a us lines x z (h, w) o =
+    let q = x.first in
+    let d : tokens_of us ≡ tokens_of q.before ++ token.Number q.number ∷ tokens_of q.after =
+    ap tokens_of (one_spelling 0 text us x.tokens z x.spelled ∙ q.split) ∙ tokens_at q.before q.after q.token q.number q.number_is in
     let e = sym d ∙ (w ∙ sym (append-nil (solution_tokens h lines))) in
-    let l = inner_winner (tokens_of b1) (tokens_of a1) n1 h lines [] y1 o (omega arith) (λ us g. cc g) e in
-    omega (arith, l, c1)
+    let l = inner_winner (tokens_of q.before) (tokens_of q.after) q.number h lines [] q.expected o (omega arith) (λ us g. cc g) e in
+    omega (arith, l, q.wrong)
 
 lines_of : (text : List ℕ) (ls ks : List WrittenSolutionLine) → SpellsSolution text ls → SpellsSolution text ks → ls ≡ ks
 lines_of text ls ks a b =

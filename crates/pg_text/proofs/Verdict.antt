@@ -1,22 +1,14 @@
 -- Winners and choices without a fault are a solution, and a solution has no fault.
-use Rattle.pg_text.proofs.Common.{◌≡◌, ℕ, ◌<◌, Bool, true, false, ◌⊎◌, inl, inr, List, [], ◌∷◌, length, lt-ltb, refl, sym, ◌∙◌, subst, arith, rules, Option}
-use Rattle.pg_text.proofs.Common.{Some, None, Contains, ltb-true, eqb-true, eq-eqb, is_same, Player, same_player, Graph, HasEdge, owner_of, successors_of, In}
+use Rattle.pg_text.proofs.Common.{◌≡◌, ℕ, ◌<◌, Bool, true, false, inl, inr, List, [], ◌∷◌, length, lt-ltb, refl, sym, ◌∙◌, subst, arith, rules, Option}
+use Rattle.pg_text.proofs.Common.{Some, None, ltb-true, is_same, Player, same_player, Graph, HasEdge, owner_of, successors_of, In}
 use Rattle.pg_text.proofs.Common.{NoneHas, SolutionRows, winner_of, choice_of, won_by, IsSolution, LacksChoice, HasBadChoice, Leaves, IsOnBadWalk}
-use Rattle.std.specs.Prelude.{nat_eq}
 use Rattle.std.proofs.lemmas.Bool.{and_parts}
 use Rattle.pg_game.proofs.Players.{same_is}
 use Rattle.pg_game.specs.Kept.{KeptEdge}
 use Rattle.pg_game.specs.Walk.{ClosedWalk}
 use Rattle.pg_game.specs.Region.{OnBadWalk}
-use Rattle.pg_game.proofs.Members.{some_or_none}
+use Rattle.pg_game.proofs.Members.{contains_or_not}
 use Rattle.pg_game.proofs.Rotate.{good_from_none}
-
--- a list has the number or does not
-pub has_or_not : (ws : List ℕ) (w : ℕ) → Contains ws w ⊎ (Contains ws w → ⊥)
-has_or_not ws w = elim (some_or_none (λ x. nat_eq x w) ws) [
-  | inl (x, m, t) ↦ inl (subst (Contains ws) (eqb-true x w t) m)
-  | inr none ↦ inr (λ m. let e : nat_eq w w ≡ true = eq-eqb w w refl in cc (e, none w m))
-]
 
 module _ (g : Graph) (rows : SolutionRows) (size : length rows ≡ length g) where
   -- a vertex of the player's set is one of the game, and he is its winner
@@ -26,7 +18,7 @@ module _ (g : Graph) (rows : SolutionRows) (size : length rows ≡ length g) whe
   choice_cases : (v : ℕ) → v < length g → owner_of g v ≡ winner_of rows v → NoneHas (LacksChoice g rows) → NoneHas (HasBadChoice g rows) → (c : Option ℕ)
       → choice_of rows v ≡ c → (w : ℕ) × (choice_of rows v ≡ Some w) × HasEdge g v w
   choice_cases v l o lacks bad None e = absurd (lacks v (l, o, e))
-  choice_cases v l o lacks bad (Some w) e = elim (has_or_not (successors_of g v) w) [
+  choice_cases v l o lacks bad (Some w) e = elim (contains_or_not (successors_of g v) w) [
     | inl m ↦ (w, e, m)
     | inr none ↦ absurd (bad v (l, o, (w, e, none)))
   ]

@@ -20,7 +20,8 @@ use Rattle.pg_text.proofs.OneSolutionFault.{one_lines}
 use Rattle.pg_text.proofs.solution_text.Identifiers.{number_at, stranger-append}
 use Rattle.pg_text.proofs.solution_text.VertexTable.{IsChoice, player_back, find_none, row_is, at_home}
 use Rattle.pg_text.proofs.writing.WrittenTexts.{line_of, row_line, row_lines, written_lines, written_grammar, written_owners, spells_game, spells_solution}
-use Rattle.pg_text.proofs.writing.WrittenTexts.{all_from_places, small_winners, written_game_spells, written_solution_spells}
+use Rattle.pg_game.proofs.AllElements.{all_at, all_from_places}
+use Rattle.pg_text.proofs.writing.WrittenTexts.{small_winners, written_game_spells, written_solution_spells}
 use Rattle.pg_text.specs.SolutionText as solutions
 
 -- the written lines specify what describes the game
@@ -84,11 +85,6 @@ rising_once earlier (n ∷ ns) up f =
     let d : (n == get_or ns k 0) ≡ false =
     false_from_ne_true (n == get_or ns k 0) (λ t. let q : n ≡ get_or ns k 0 = eqb-true n (get_or ns k 0) t in omega arith) in
     rw d (f (suc k) (omega arith))))
-
-pub all_at : {X : Type 0} (P : X → Type 0) (xs : List X) (k : ℕ) (d : X) → AllByRecursion P xs → k < length xs → P (get_or xs k d)
-all_at P [] k d a l = absurd (omega arith)
-all_at P (x ∷ xs) zero d a l = a.0
-all_at P (x ∷ xs) (suc k) d a l = all_at P xs k d a.1 (omega arith)
 
 none_home : (g : Graph) (lines : List solutions.WrittenSolutionLine) → AllByRecursion (λ l. first_stranger g (l ∷ []) ≡ None) lines
     → first_stranger g lines ≡ None

@@ -17,14 +17,27 @@ pub record IsLexicalFault (text : List ℕ) (place : ℕ) : Type 0 where
   pub solid : is_blank byte ≡ false
   pub wrong : (begins_token byte ≡ false) ⊎ ((byte ≡ 34) × AllAre is_no_quote after)
 
--- The text spells tokens. Those before the place begin a text of the grammar, and with the next they do not;
--- or all of them begin a text and are none, and the place is the text's length
-abbrev pub IsSyntaxFault : (List Token → Type 0) → (List Token → Type 0) → List ℕ → ℕ → Type 0
-IsSyntaxFault BeginsText IsText text place =
-    (ts : List Placed) × Spells 0 text ts
-    × (((before after : List Placed) × (t : Placed) × (ts ≡ before ++ t ∷ after) × (place ≡ t.place) × BeginsText (tokens_of before)
-    × (BeginsText (tokens_of before ++ t.token ∷ []) → ⊥))
-    ⊎ ((place ≡ length text) × BeginsText (tokens_of ts) × (IsText (tokens_of ts) → ⊥)))
+-- at the place is a token with which those before it begin no text
+pub record IsFirstUnexpected (BeginsText : List Token → Type 0) (tokens : List Placed) (place : ℕ) : Type 0 where
+  pub before : List Placed
+  pub after : List Placed
+  pub token : Placed
+  pub split : tokens ≡ before ++ token ∷ after
+  pub placed : place ≡ token.place
+  pub begins : BeginsText (tokens_of before)
+  pub stops : BeginsText (tokens_of before ++ token.token ∷ []) → ⊥
+
+-- all tokens begin a text and are none, and the place is the text's length
+pub record EndsTooEarly (BeginsText IsText : List Token → Type 0) (text : List ℕ) (tokens : List Placed) (place : ℕ) : Type 0 where
+  pub placed : place ≡ length text
+  pub begins : BeginsText (tokens_of tokens)
+  pub incomplete : IsText (tokens_of tokens) → ⊥
+
+-- the text spells tokens, of which one is not expected at the place, or more are
+pub record IsSyntaxFault (BeginsText IsText : List Token → Type 0) (text : List ℕ) (place : ℕ) : Type 0 where
+  pub tokens : List Placed
+  pub spelled : Spells 0 text tokens
+  pub wrong : IsFirstUnexpected BeginsText tokens place ⊎ EndsTooEarly BeginsText IsText text tokens place
 
 -- the number is within the limit
 abbrev pub fits : Token → Bool
@@ -37,15 +50,39 @@ fits Semicolon = true
 abbrev pub AllFit : List Token → Type 0
 AllFit ts = AllByRecursion (λ t. fits t ≡ true) ts
 
--- the text is of the grammar, and at the place is the first number above the limit
-abbrev pub IsNumberFault : (List Token → Type 0) → List ℕ → ℕ → Type 0
-IsNumberFault IsText text place =
-    (ts : List Placed) × Spells 0 text ts × IsText (tokens_of ts)
-    × ((before after : List Placed) × (t : Placed) × (ts ≡ before ++ t ∷ after) × (place ≡ t.place) × AllFit (tokens_of before) × (fits t.token ≡ false))
+-- at the place is the first number above the limit
+pub record IsFirstLarge (tokens : List Placed) (place : ℕ) : Type 0 where
+  pub before : List Placed
+  pub after : List Placed
+  pub token : Placed
+  pub split : tokens ≡ before ++ token ∷ after
+  pub placed : place ≡ token.place
+  pub small : AllFit (tokens_of before)
+  pub large : fits token.token ≡ false
 
--- the text is of the grammar and its numbers fit, and at the place, after tokens of the kind, is a number above 1
-abbrev pub IsPlayerFault : (List Token → Type 0) → (List Token → Type 0) → List ℕ → ℕ → Type 0
-IsPlayerFault IsText IsBefore text place =
-    (ts : List Placed) × Spells 0 text ts × IsText (tokens_of ts) × AllFit (tokens_of ts)
-    × ((before after : List Placed) × (t : Placed) × (n : ℕ) × (ts ≡ before ++ t ∷ after) × (place ≡ t.place) × IsBefore (tokens_of before)
-    × (t.token ≡ Number n) × (1 < n))
+-- the text is of the grammar, and at the place is its first number above the limit
+pub record IsNumberFault (IsText : List Token → Type 0) (text : List ℕ) (place : ℕ) : Type 0 where
+  pub tokens : List Placed
+  pub spelled : Spells 0 text tokens
+  pub grammar : IsText (tokens_of tokens)
+  pub first : IsFirstLarge tokens place
+
+-- at the place, after tokens of the kind, is a number above 1
+pub record IsWrongPlayer (IsBefore : List Token → Type 0) (tokens : List Placed) (place : ℕ) : Type 0 where
+  pub before : List Placed
+  pub after : List Placed
+  pub token : Placed
+  pub number : ℕ
+  pub split : tokens ≡ before ++ token ∷ after
+  pub placed : place ≡ token.place
+  pub expected : IsBefore (tokens_of before)
+  pub number_is : token.token ≡ Number number
+  pub wrong : 1 < number
+
+-- the text is of the grammar and its numbers fit, and at the place is its first wrong player
+pub record IsPlayerFault (IsText IsBefore : List Token → Type 0) (text : List ℕ) (place : ℕ) : Type 0 where
+  pub tokens : List Placed
+  pub spelled : Spells 0 text tokens
+  pub grammar : IsText (tokens_of tokens)
+  pub numbers : AllFit (tokens_of tokens)
+  pub first : IsWrongPlayer IsBefore tokens place

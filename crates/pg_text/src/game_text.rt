@@ -92,7 +92,7 @@ impl Grammar for GameText {
     }
 
     fn lines(self) -> GameBuilder {
-        self.specs.finish()
+        self.specs.into_builder()
     }
 
     ghost weaker = { λ sound later ts s it h k. weaker h k };

@@ -3,9 +3,8 @@
 //! since its value stops growing once it is above the limit.
 
 ghost use Rattle.std.specs.Prelude.{◌≡◌, ◌≢◌, ℕ, ◌+◌, ◌<◌, ◌≤◌, length, drop, List, slice_index, false, MatchOption, IfSome, Some};
-ghost use Rattle.pg_text.specs.Bytes.{EndsRun, value_of};
 ghost use Rattle.pg_text.specs.Bytes as bytes;
-ghost use Rattle.pg_text.specs.private.Lexeme.{IsNextLexeme, IsRun, fitting};
+ghost use Rattle.pg_text.specs.private.Lexeme.{IsNextLexeme, IsRangeOf, IsWholeRun, IsWholeNumber};
 ghost use Rattle.pg_text.specs.private.Reach.{SpellsRest, IsBadFrom};
 
 use memchr::memchr;
@@ -35,8 +34,7 @@ pub struct Lexeme {
 pub fn next_token(text: &[u8], at: usize) -> Lexeme
     requires { at ≤ length text.now }
     ensures token { IsNextLexeme text.now at result }
-    ensures order { result.from ≤ result.to }
-    ensures within { result.to ≤ length text.now }
+    ensures range { IsRangeOf text.now result.from result.to }
 {
     let from = blanks_end(text, at);
     if from >= text.len() {
@@ -94,9 +92,7 @@ pub fn first_invalid(text: &[u8], at: usize) -> Option<usize>
 #[inline(always)]
 fn blanks_end(text: &[u8], from: usize) -> usize
     requires { from ≤ length text.now }
-    ensures run { (run : List ℕ) × IsRun bytes.is_blank text.now from result run }
-    ensures within { result ≤ length text.now }
-    ensures ends { EndsRun bytes.is_blank (drop result text.now) }
+    ensures { IsWholeRun bytes.is_blank text.now from result }
 {
     let mut to = from;
     'blanks: while to < text.len() && is_blank(text[to]) {
@@ -105,6 +101,7 @@ fn blanks_end(text: &[u8], from: usize) -> usize
     to
 }
 
+/// Whether the byte is a space, a tab, a carriage return or a line feed.
 #[inline]
 fn is_blank(byte: u8) -> bool
     ensures { result ≡ bytes.is_blank byte }
@@ -112,6 +109,7 @@ fn is_blank(byte: u8) -> bool
     byte == b' ' || byte == b'\t' || byte == b'\r' || byte == b'\n'
 }
 
+/// Whether the byte is an ASCII digit.
 #[inline]
 fn is_digit(byte: u8) -> bool
     ensures { result ≡ bytes.is_digit byte }
@@ -123,9 +121,7 @@ fn is_digit(byte: u8) -> bool
 #[inline(always)]
 fn read_number(text: &[u8], from: usize) -> (Option<u32>, usize)
     requires { from ≤ length text.now }
-    ensures run { (run : List ℕ) × IsRun bytes.is_digit text.now from result.1 run × (result.0 ≡ fitting (value_of run)) }
-    ensures within { result.1 ≤ length text.now }
-    ensures ends { EndsRun bytes.is_digit (drop result.1 text.now) }
+    ensures { IsWholeNumber text.now from result.1 result.0 }
 {
     if text.len() - from >= SHORT {
         if let Some((value, to)) = short_number(text, from) {
@@ -143,9 +139,7 @@ const SHORT: usize = 11;
 #[inline(always)]
 fn short_number(text: &[u8], from: usize) -> Option<(u32, usize)>
     requires { from + 11 ≤ length text.now }
-    ensures run { IfSome result (λ n. (run : List ℕ) × IsRun bytes.is_digit text.now from n.1 run × (Some n.0 ≡ fitting (value_of run))) }
-    ensures ends { IfSome result (λ n. EndsRun bytes.is_digit (drop n.1 text.now)) }
-    ensures ahead { IfSome result (λ n. (from < n.1) × (n.1 < length text.now)) }
+    ensures { IfSome result (λ n. IsWholeNumber text.now from n.1 (Some n.0)) }
 {
     let mut value = 0u64;
     'digits: for k in 0..SHORT {
@@ -168,9 +162,7 @@ const GREATEST: u64 = 2147483647;
 #[inline(never)]
 fn long_number(text: &[u8], from: usize) -> (Option<u32>, usize)
     requires { from ≤ length text.now }
-    ensures run { (run : List ℕ) × IsRun bytes.is_digit text.now from result.1 run × (result.0 ≡ fitting (value_of run)) }
-    ensures within { result.1 ≤ length text.now }
-    ensures ends { EndsRun bytes.is_digit (drop result.1 text.now) }
+    ensures { IsWholeNumber text.now from result.1 result.0 }
 {
     let mut value = 0u64;
     let mut to = from;
@@ -196,8 +188,7 @@ fn word_or_name(text: &[u8], from: usize) -> Lexeme
     requires no_comma { slice_index text.now from ≢ 44 }
     requires no_semicolon { slice_index text.now from ≢ 59 }
     ensures token { IsNextLexeme text.now from result }
-    ensures order { result.from ≤ result.to }
-    ensures within { result.to ≤ length text.now }
+    ensures range { IsRangeOf text.now result.from result.to }
 {
     let first = text[from];
     if first == b'"' {
@@ -229,6 +220,7 @@ fn word_or_name(text: &[u8], from: usize) -> Lexeme
     }
 }
 
+/// Whether the byte is an ASCII letter.
 #[inline]
 fn is_letter(byte: u8) -> bool
     ensures { result ≡ bytes.is_letter byte }
@@ -240,9 +232,7 @@ fn is_letter(byte: u8) -> bool
 #[inline(never)]
 fn letters_end(text: &[u8], from: usize) -> usize
     requires { from ≤ length text.now }
-    ensures run { (run : List ℕ) × IsRun bytes.is_letter text.now from result run }
-    ensures within { result ≤ length text.now }
-    ensures ends { EndsRun bytes.is_letter (drop result text.now) }
+    ensures { IsWholeRun bytes.is_letter text.now from result }
 {
     let mut to = from;
     'letters: while to < text.len() && is_letter(text[to]) {

@@ -6,7 +6,7 @@
 ghost use Rattle.std.specs.Prelude.{◌≡◌, ℕ, ◌≤◌, true, length, IfOk, MatchResult, List, [], Bool};
 ghost use Rattle.pg_text.specs.Token.{Placed, Spells, Token, Word};
 ghost use Rattle.pg_text.specs.Reading.{max_text};
-ghost use Rattle.pg_text.specs.private.Lexeme.{fitting};
+ghost use Rattle.pg_text.specs.private.Lexeme.{IsRangeOf, fitting};
 ghost use Rattle.pg_text.specs.private.Parsing.{KeepsReader, ReaderTakes, OfToken, IsUnexpected, SpellsLines, IsParseFaultOf};
 ghost use Rattle.pg_text.specs.private.Machine.{symbol_of, number_of};
 ghost use Rattle.pg_text.specs.GameText.{player_of};
@@ -139,8 +139,7 @@ impl<G: Grammar + Drop> Reader<G> {
     #[inline(always)]
     fn take(&mut self, text: &[u8], lexeme: Lexeme) -> Result<bool, Memory>
         requires size { length text.now ≤ max_text }
-        requires order { lexeme.from ≤ lexeme.to }
-        requires within { lexeme.to ≤ length text.now }
+        requires range { IsRangeOf text.now lexeme.from lexeme.to }
         ensures { IfOk result (λ taken. OfToken (ReaderTakes G.Reads G.BeginsText G.IsBeforePlayer self.old self.new taken) text.now lexeme) }
     {
         let (symbol, value) = symbol_and_value(text, lexeme);
@@ -178,8 +177,7 @@ impl<G: Grammar + Drop> Reader<G> {
 /// The symbol of a token, and its value: 0 of what is no number, and none above the limit.
 #[inline(always)]
 fn symbol_and_value(text: &[u8], lexeme: Lexeme) -> (Symbol, Option<u32>)
-    requires order { lexeme.from ≤ lexeme.to }
-    requires within { lexeme.to ≤ length text.now }
+    requires { IsRangeOf text.now lexeme.from lexeme.to }
     ensures { OfToken (λ t place. (result.0 ≡ symbol_of t) × (result.1 ≡ fitting (number_of t))) text.now lexeme }
 {
     match lexeme.kind {
@@ -232,8 +230,7 @@ fn note_first(known: &mut Option<u32>, found: bool, place: u32)
 #[inline(never)]
 fn unexpected<G: Grammar>(text: &[u8], from: usize, to: usize) -> ParseFault
     requires size { length text.now ≤ max_text }
-    requires order { from ≤ to }
-    requires within { to ≤ length text.now }
+    requires range { IsRangeOf text.now from to }
     ensures { IsUnexpected G.BeginsText text.now from to → IsParseFaultOf G.BeginsText G.IsText G.IsBeforePlayer text.now result }
 {
     match first_invalid(text, to) {

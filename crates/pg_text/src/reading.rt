@@ -37,7 +37,7 @@ pub fn read_forward_game(alloc: Global, text: &[u8]) -> Result<ForwardGame, Text
     ensures fault { IfErr result (λ e. IsFaultOf text.now e) }
 {
     let specs = read_lines(GameText::new(alloc)?, text)?;
-    match ForwardGame::from_rows(alloc, specs) {
+    match ForwardGame::from_builder(alloc, specs) {
         Ok(game) => Ok(game),
         Err(GameFault::Memory) => Err(TextFault::Memory),
         Err(fault) => Err(TextFault::Game(fault)),

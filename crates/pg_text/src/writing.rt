@@ -6,6 +6,7 @@ ghost use Rattle.std.specs.Prelude.{◌≡◌, ◌<◌, ◌≤◌, ◌+◌, ◌*
 ghost use Rattle.std.specs.List.{join_with_byte};
 ghost use Rattle.pg_game.specs.Graph.{id_of, priority_of, owner_of, successors_of, vertex_at};
 ghost use Rattle.pg_game.specs.Player.{digit_of};
+ghost use Rattle.pg_text.specs.Written.{HasSpaceBefore, IsWrittenBefore};
 ghost use Rattle.pg_text.specs.Written.{greatest_id, numeral, written_game, written_vertex, written_solution, written_rows, written_winners, written_choice};
 ghost use Rattle.pg_text.specs.Lengths.{greatest_game_text, greatest_solution_text, greatest_winners_text};
 ghost use Rattle.pg_text.specs.Solution.{AreSolutionRows, SolutionRows};
@@ -81,13 +82,8 @@ pub fn put_number(out: &mut Vec<u8>, n: u64) -> Result<(), Memory>
 /// Writes a number whose digits end at a place of the line, with ten bytes at least before it, and returns where they begin.
 #[inline]
 pub fn number_before(line: &mut [u8], end: usize, n: u32) -> usize
-    requires capacity { 10 ≤ end }
-    requires within { end ≤ length line.old }
-    ensures written { drop result line.new ≡ numeral n ++ drop end line.old }
-    ensures near { end ≤ result + 10 }
-    ensures before { result ≤ end }
-    ensures kept { take result line.new ≡ take result line.old }
-    ensures size { length line.new ≡ length line.old }
+    requires { HasSpaceBefore 10 line.old end }
+    ensures { IsWrittenBefore 10 line.old line.new end result (numeral n ++ drop end line.old) }
 {
     write_digits(u64::from(n), line, end)
 }
@@ -96,10 +92,8 @@ pub fn number_before(line: &mut [u8], end: usize, n: u32) -> usize
 #[inline]
 pub fn end_before(line: &mut [u8]) -> usize
     requires { 2 ≤ length line.old }
-    ensures written { drop result line.new ≡ codes ";\n" }
+    ensures line { IsWrittenBefore 2 line.old line.new (length line.old) result (codes ";\n") }
     ensures place { result + 2 ≡ length line.old }
-    ensures kept { take result line.new ≡ take result line.old }
-    ensures size { length line.new ≡ length line.old }
 {
     let end = line.len();
     let at = byte_before(line, end, b'\n');
@@ -110,14 +104,9 @@ pub fn end_before(line: &mut [u8]) -> usize
 /// least before it, and returns where they begin.
 #[inline]
 pub fn choice_before(line: &mut [u8], end: usize, game: &Game, choice: Option<u32>) -> usize
-    requires capacity { 11 ≤ end }
-    requires within { end ≤ length line.old }
+    requires space { HasSpaceBefore 11 line.old end }
     requires choice { IfSome choice (λ w. w < length game.now) }
-    ensures written { drop result line.new ≡ written_choice game.now choice ++ drop end line.old }
-    ensures near { end ≤ result + 11 }
-    ensures before { result ≤ end }
-    ensures kept { take result line.new ≡ take result line.old }
-    ensures size { length line.new ≡ length line.old }
+    ensures { IsWrittenBefore 11 line.old line.new end result (written_choice game.now choice ++ drop end line.old) }
 {
     match choice {
         Some(w) => {
@@ -169,13 +158,8 @@ fn put_row(out: &mut Vec<u8>, game: &Game, v: u32, row: (Player, Option<u32>)) -
 /// Writes a number and a space before a place of the line, and returns where they begin.
 #[inline]
 fn field_before(line: &mut [u8], end: usize, n: u32) -> usize
-    requires capacity { 11 ≤ end }
-    requires within { end ≤ length line.old }
-    ensures written { drop result line.new ≡ numeral n ++ 32 ∷ drop end line.old }
-    ensures near { end ≤ result + 11 }
-    ensures before { result ≤ end }
-    ensures kept { take result line.new ≡ take result line.old }
-    ensures size { length line.new ≡ length line.old }
+    requires { HasSpaceBefore 11 line.old end }
+    ensures { IsWrittenBefore 11 line.old line.new end result (numeral n ++ 32 ∷ drop end line.old) }
 {
     let at = byte_before(line, end, b' ');
     number_before(line, at, n)
@@ -184,12 +168,9 @@ fn field_before(line: &mut [u8], end: usize, n: u32) -> usize
 /// Writes a byte before a place of the line, and returns where it is.
 #[inline]
 fn byte_before(line: &mut [u8], end: usize, byte: u8) -> usize
-    requires capacity { 1 ≤ end }
-    requires within { end ≤ length line.old }
-    ensures written { drop result line.new ≡ byte ∷ drop end line.old }
+    requires { HasSpaceBefore 1 line.old end }
+    ensures line { IsWrittenBefore 1 line.old line.new end result (byte ∷ drop end line.old) }
     ensures place { result + 1 ≡ end }
-    ensures kept { take result line.new ≡ take result line.old }
-    ensures size { length line.new ≡ length line.old }
 {
     line[end - 1] = byte;
     end - 1
@@ -239,13 +220,8 @@ fn put_vertex(out: &mut Vec<u8>, line: &mut [u8], game: &ForwardGame, v: u32) ->
 fn list_before(line: &mut [u8], end: usize, game: &ForwardGame, vertices: &[u32]) -> usize
     requires some { 0 < length vertices.now }
     requires below { (k : ℕ) → k < length vertices.now → slice_index vertices.now k < length game.now }
-    requires capacity { 11 * length vertices.now ≤ end }
-    requires within { end ≤ length line.old }
-    ensures written { drop result line.new ≡ join_with_byte 44 (map (λ w. numeral (id_of game.now w)) vertices.now) ++ drop end line.old }
-    ensures near { end ≤ result + 11 * length vertices.now }
-    ensures before { result ≤ end }
-    ensures kept { take result line.new ≡ take result line.old }
-    ensures size { length line.new ≡ length line.old }
+    requires space { HasSpaceBefore (11 * length vertices.now) line.old end }
+    ensures { IsWrittenBefore (11 * length vertices.now) line.old line.new end result (join_with_byte 44 (map (λ w. numeral (id_of game.now w)) vertices.now) ++ drop end line.old) }
 {
     let mut at = end;
     let mut left = vertices.len();
@@ -254,22 +230,19 @@ fn list_before(line: &mut [u8], end: usize, game: &ForwardGame, vertices: &[u32]
         at = number_before(line, at, game.id(vertices[left]));
         at = byte_before(line, at, b',');
     }
-    number_before(line, at, game.id(vertices[0]))
+    let first = game.id(vertices[0]);
+    number_before(line, at, first)
 }
 
 /// Writes identifier, priority and owner of a vertex before a place of the line, each with a space after it.
 #[inline]
 fn fields_before(line: &mut [u8], end: usize, game: &ForwardGame, v: u32) -> usize
     requires vertex { v < length game.now }
-    requires capacity { 33 ≤ end }
-    requires within { end ≤ length line.old }
-    ensures written { drop result line.new ≡ numeral (id_of game.now v)
-        ++ (32 ∷ numeral (priority_of game.now v) ++ (32 ∷ numeral (digit_of (owner_of game.now v)) ++ (32 ∷ drop end line.old))) }
-    ensures before { result ≤ end }
-    ensures kept { take result line.new ≡ take result line.old }
-    ensures size { length line.new ≡ length line.old }
+    requires space { HasSpaceBefore 33 line.old end }
+    ensures { IsWrittenBefore 33 line.old line.new end result (numeral (id_of game.now v)
+        ++ (32 ∷ numeral (priority_of game.now v) ++ (32 ∷ numeral (digit_of (owner_of game.now v)) ++ (32 ∷ drop end line.old)))) }
 {
-    let at = field_before(line, end, u32::from(game.owner(v).digit()));
-    let at = field_before(line, at, game.priority(v));
-    field_before(line, at, game.id(v))
+    let owner = field_before(line, end, u32::from(game.owner(v).digit()));
+    let priority = field_before(line, owner, game.priority(v));
+    field_before(line, priority, game.id(v))
 }

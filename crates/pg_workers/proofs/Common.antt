@@ -12,7 +12,8 @@ pub use Rattle.std.proofs.lemmas.Option.{none-some, same_Some}
 pub use Rattle.std.specs.Vec.Iter.{into_iter_items, into_iter_len}
 pub use Rattle.atomic_table.specs.Table.{Allows, Joins, Splits, Step, opening, step}
 pub use Rattle.pg_game.proofs.Common.{sum_by-cons}
-pub use Rattle.pg_text.proofs.Common.{get_or_from_slice_get, nat_tests, slice_get-get_or}
+pub use Rattle.std.proofs.lemmas.Bool.Decides.{nat_tests}
+pub use Rattle.std.proofs.lemmas.Option.{get_or_from_slice_get, slice_get-get_or}
 pub use Rattle.pg_text.specs.Known.{KnownRows, known_choice, known_of}
 pub use Rattle.pg_finders.proofs.Common.{AreClaims, common_steps, get_or_default, nil_from_length, own_choices, rows_below}
 pub use Rattle.pg_board.proofs.Common.{AreStateRows, Claim, ClaimRows, Graph, IsDominionAfter, IsExactSolution, IsFull, IsGoodIn, IsLawful, Journal, BoardRecord}
@@ -28,8 +29,7 @@ pub use Rattle.pg_workers.specs.Tickets.{AreDrawn, HeldTicket, fresh}
 pub use Rattle.pg_board.specs.Work.{total_of}
 pub use Rattle.pg_workers.specs.declared.known.SolveFault.{SolveFault}
 pub use Rattle.pg_workers.specs.declared.report.ReportRow.{ReportRow}
-pub use Rattle.pg_workers.specs.private.Answers.{AreNoted, IsAnswerTo}
 pub use Rattle.pg_workers.specs.private.Drawing.{AtSeat, Draws, IsDrawer, IsDrawn, both_drawers, drawer, one_less, one_ticket, spent_drawer}
 pub use Rattle.pg_workers.specs.private.Known.{HasSettled, IsKnownFault}
-pub use Rattle.pg_workers.specs.private.Report.{AreBlank, AreIdle, AreNotedRows, AreOfPrefix, HasPlaces, answered, how_many_of_job, jobs_in, noted}
+pub use Rattle.pg_workers.specs.private.Report.{AreBlank, AreCounted, AreIdle, AreNotedRows, AreOfPrefix, HasPlaces, answered, how_many_of_job, jobs_in, noted}
 pub use Rattle.pg_workers.specs.private.Report.{rows_in}

@@ -249,7 +249,7 @@ module _ (g : Graph) (known : KnownRows) (opened mid : BoardRecord) (here : open
     λ v. first.other v ∙ ap (λ (j : Journal). settled (state_of j) Odd v) new_board,
   )
 
-  pub odd_fault : mid.graph ≡ g → IsLawful mid.graph mid.journal → (e : SolveFault) → IsKnownFault mid.graph mid.journal known Odd e
+  pub odd_fault : mid.graph ≡ g → IsLawful mid.graph mid.journal → (e : SolveFault) → IsKnownFault g mid.journal known Odd e
       → IsSolveFault g known e
   odd_fault same lawful e h = search (rules, before_odd)
 

@@ -1,2 +1,2 @@
 -- Lemmas of the proofs of `worker`.
-pub mod NotedAnswers
+pub mod CountedAnswers

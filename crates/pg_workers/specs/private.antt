@@ -1,7 +1,6 @@
 -- Definitions that only private functions and proofs cite: no public contract uses them.
 pub mod Drawing
 pub mod Report
-pub mod Answers
 pub mod Tickets
 pub mod TicketFields
 pub mod Known

@@ -32,7 +32,7 @@ impl From<Memory> for SolveFault {
 
 /// A game, and what is known of it: no more rows than there are vertices.
 #[derive(Clone, Copy)]
-pub(crate) struct KnownOf<'x> {
+pub struct KnownOf<'x> {
     pub game: &'x Game,
     pub known: &'x Known,
     ghost size: { length known.now.rows ≤ length game.now },
@@ -47,9 +47,9 @@ pub(crate) fn board_with<'g>(alloc: Global, of: &KnownOf<'g>) -> Result<Board<'g
     let mut board = Board::open(alloc, of.game)?;
     // for the proof, here and below: reading the board gives that its journal is lawful
     let _opened = board.game();
-    post_known(alloc, &mut board, of.known, Player::Even)?;
+    post_known(alloc, &mut board, of, Player::Even)?;
     let _posted = board.game();
-    post_known(alloc, &mut board, of.known, Player::Odd)?;
+    post_known(alloc, &mut board, of, Player::Odd)?;
     Ok(board)
 }
 
@@ -57,17 +57,18 @@ pub(crate) fn board_with<'g>(alloc: Global, of: &KnownOf<'g>) -> Result<Board<'g
 fn post_known(
     alloc: Global,
     board: &mut Board<'_>,
-    known: &Known,
+    of: &KnownOf<'_>,
     player: Player,
 ) -> Result<(), SolveFault>
-    requires size { length known.now.rows ≤ length board.old.graph }
+    requires game { board.old.graph ≡ of.now.game.now }
     requires none { HasNone board.old.journal player }
-    ensures graph { board.new.graph ≡ board.old.graph }
-    ensures settles { OnOk result (SettlesKnown board.old board.new known.now.rows player) }
-    ensures fault { IfErr result (λ e. IsKnownFault board.old.graph board.old.journal known.now.rows player e) }
+    ensures graph { board.new.graph ≡ of.now.game.now }
+    ensures settles { OnOk result (SettlesKnown board.old board.new of.now.known.now.rows player) }
+    ensures fault { IfErr result (λ e. IsKnownFault of.now.game.now board.old.journal of.now.known.now.rows player e) }
 {
-    let game = board.game();
-    let claim = known_claim(alloc, &KnownOf { game, known }, player)?;
+    // for the proof: the game is one, and the board's journal is lawful
+    let _before = board.game();
+    let claim = known_claim(alloc, of, player)?;
     if claim.rows.as_slice().is_empty() {
         return Ok(());
     }

@@ -2,13 +2,13 @@
 //! calling thread solves what is still unsettled.
 
 ghost use Rattle.std.specs.Prelude.{◌≡◌, ◌+◌, ◌≤◌, ℕ, IfOk, IfErr, length, replicate, vec_len};
-ghost use Rattle.pg_game.specs.declared.player.Player.{Player};
 ghost use Rattle.pg_text.specs.Known.{KnownRows};
 ghost use Rattle.pg_workers.specs.Outcomes.{IsOutcome};
 ghost use Rattle.pg_board.specs.Journal.{number_settled};
-ghost use Rattle.pg_workers.specs.Known.{IsKnownRegion, IsSolveFault};
+ghost use Rattle.pg_workers.specs.Known.{IsSolveFault};
 ghost use Rattle.pg_workers.specs.private.Known.{HasSettled};
-ghost use Rattle.pg_workers.specs.Report.{AreNumbered, IsReport, settled_in};
+ghost use Rattle.pg_workers.specs.private.Report.{KeepsReport};
+ghost use Rattle.pg_workers.specs.Report.{IsInOrder, IsReport, settled_in};
 ghost use Rattle.pg_workers.specs.Tickets.{fresh};
 ghost use Rattle.pg_board.specs.Work.{total_of};
 
@@ -16,7 +16,7 @@ use crate::jobs::{Jobs, Ticket};
 use crate::known::{KnownOf, SolveFault, board_with};
 use crate::report::{ReportRow, blank_report, with_no_posts, with_rows};
 use crate::threads::{new_workers, start_all, take_apart};
-use crate::worker::{Gate, RunJobs, Search, Setup, Task};
+use crate::worker::{Gate, RunJobs, Setup, Task};
 use pg_board::{Board, Entry, Office, Options, Share};
 use pg_finders::Finder;
 use pg_game::{Game, Memory};
@@ -55,7 +55,6 @@ pub fn solve_game<R: Threads + Wait + Sync>(
     requires workers { (1 ≤ options.now.workers) × (options.now.workers ≤ 64) }
     requires bound { options.now.bound ≤ 8 }
     ensures outcome { IfOk result (λ o. IsOutcome game.now known.now.rows (total_of options.now.bound (length game.now)) options.now.workers o) }
-    ensures regions { IfOk result (λ o. (p : Player) → IsKnownRegion game.now known.now.rows p) }
     ensures fault { IfErr result (λ e. IsSolveFault game.now known.now.rows e) }
 {
     let blank = Blank::new(u64::from(options.workers) + 1);
@@ -63,8 +62,7 @@ pub fn solve_game<R: Threads + Wait + Sync>(
         rt,
         alloc,
         options,
-        game,
-        known,
+        start: &KnownOf { game, known },
         gate,
         finder,
     };
@@ -72,30 +70,25 @@ pub fn solve_game<R: Threads + Wait + Sync>(
 }
 
 /// A run over an office of its game, with a ledger made of this blank.
-fn solve_on<L: Ledger + Send + Sync, G: Gate, F: Search, R: Threads + Wait + Sync>(
+fn solve_on<L: Ledger + Send + Sync, G: Gate, F: Finder, R: Threads + Wait + Sync>(
     setup: &Setup<'_, G, F, R>,
     blank: Blank,
 ) -> Result<Outcome, SolveFault>
     requires name { blank.name ≡ L.name }
     requires parts { (blank.parts ≡ L.parts) × (blank.parts ≡ setup.now.options.now.workers + 1) }
-    ensures outcome { IfOk result (λ o. IsOutcome setup.now.game.now setup.now.known.now.rows
-        (total_of setup.now.options.now.bound (length setup.now.game.now)) setup.now.options.now.workers o) }
-    ensures regions { IfOk result (λ o. (p : Player) → IsKnownRegion setup.now.game.now setup.now.known.now.rows p) }
-    ensures fault { IfErr result (λ e. IsSolveFault setup.now.game.now setup.now.known.now.rows e) }
+    ensures outcome { IfOk result (λ o. IsOutcome setup.now.start.now.game.now setup.now.start.now.known.now.rows
+        (total_of setup.now.options.now.bound (length setup.now.start.now.game.now)) setup.now.options.now.workers o) }
+    ensures fault { IfErr result (λ e. IsSolveFault setup.now.start.now.game.now setup.now.start.now.known.now.rows e) }
 {
     let alloc = setup.alloc;
     let workers = setup.options.workers;
-    let of = KnownOf {
-        game: setup.game,
-        known: setup.known,
-    };
-    let board = board_with(alloc, &of)?;
+    let board = board_with(alloc, setup.start)?;
     let (office, mut shares) = Office::<L>::open_with(alloc, blank, board, workers + 1)?;
     let first = shares.remove(0);
-    let total = setup.options.total(setup.game.len());
+    let total = setup.options.total(setup.start.game.len());
     let (jobs, tickets) = Jobs::open(alloc, total, workers)?;
     let (board, report) = run::<L, Brand, G, F, R>(setup, office, first, shares, jobs, tickets)?;
-    let (board, report) = on_own_game(alloc, &of, board, report)?;
+    let (board, report) = on_own_game(alloc, setup.start, board, report)?;
     Ok(outcome_of(alloc, board, report)?)
 }
 
@@ -106,7 +99,7 @@ fn run<
     L: Ledger + Send + Sync,
     J: RunJobs + Send + Sync,
     G: Gate,
-    F: Search,
+    F: Finder,
     R: Threads + Wait + Sync,
 >(
     setup: &Setup<'_, G, F, R>,
@@ -116,18 +109,17 @@ fn run<
     jobs: Jobs,
     tickets: Vec<Ticket>,
 ) -> Result<(Board<'g>, Vec<ReportRow>), Memory>
-    requires total { (J.series.total ≤ 4096) × (J.series.total ≡ total_of setup.now.options.now.bound (length setup.now.game.now)) }
+    requires total { (J.series.total ≤ 4096) × (J.series.total ≡ total_of setup.now.options.now.bound (length setup.now.start.now.game.now)) }
     requires shares { (shares.items ≡ replicate (vec_len shares) 0) × (vec_len shares + 1 ≡ L.parts) }
     requires jobs { (jobs.series ≡ J.series) × (jobs.seats ≡ vec_len shares) }
     requires workers { (vec_len shares ≡ J.workers) × (1 ≤ J.workers) × (J.workers ≤ 64) }
     requires tickets { tickets.items ≡ replicate (vec_len shares) (fresh J.series) }
-    ensures numbered { IfOk result (λ r. AreNumbered r.1.items) }
-    ensures settled { IfOk result (λ r. settled_in r.1.items + first ≡ number_settled r.0.journal) }
+    ensures order { IfOk result (λ r. IsInOrder J.series.total r.1.items) }
     ensures rows { IfOk result (λ r. IsReport J.workers r.1.items) }
-    ensures length { IfOk result (λ r. vec_len r.1 ≡ J.series.total) }
+    ensures settled { IfOk result (λ r. settled_in r.1.items + first ≡ number_settled r.0.journal) }
 {
     let alloc = setup.alloc;
-    let total = setup.options.total(setup.game.len());
+    let total = setup.options.total(setup.start.game.len());
     let seats = shares.len();
     let shares_back = Vec::with_capacity(alloc, seats + 1)?;
     let tickets_back = Vec::with_capacity(alloc, seats)?;
@@ -156,14 +148,11 @@ fn on_own_game<'g>(
     board: Board<'g>,
     report: Vec<ReportRow>,
 ) -> Result<(Board<'g>, Vec<ReportRow>), SolveFault>
-    requires settled { HasSettled of.now.game.now of.now.known.now.rows report.items board.journal }
-    requires numbered { AreNumbered report.items }
+    requires { HasSettled of.now.game.now of.now.known.now.rows report.items board.journal }
     ensures same { board.entry.graph ≡ of.now.game.now → IfOk result (λ r. (r.0.journal ≡ board.entry.journal) × (r.1.items ≡ report.items)) }
     ensures game { IfOk result (λ r. r.0.graph ≡ of.now.game.now) }
     ensures settled { IfOk result (λ r. HasSettled of.now.game.now of.now.known.now.rows r.1.items r.0.journal) }
-    ensures numbered { IfOk result (λ r. AreNumbered r.1.items) }
-    ensures rows { IfOk result (λ r. (n : ℕ) → IsReport n report.items → IsReport n r.1.items) }
-    ensures length { IfOk result (λ r. vec_len r.1 ≡ vec_len report) }
+    ensures report { IfOk result (λ r. KeepsReport report.items r.1.items) }
     ensures fault { IfErr result (λ e. IsSolveFault of.now.game.now of.now.known.now.rows e) }
 {
     if *board.game() == *of.game {
@@ -179,9 +168,8 @@ fn outcome_of(
     mut board: Board<'_>,
     report: Vec<ReportRow>,
 ) -> Result<Outcome, Memory>
-    requires { AreNumbered report.items }
-    ensures { (known : KnownRows) (n : ℕ) → HasSettled board.entry.graph known report.items board.entry.journal → IsReport n report.items
-        → IfOk result (λ o. IsOutcome board.entry.graph known (vec_len report) n o) }
+    ensures { (known : KnownRows) (total workers : ℕ) → HasSettled board.entry.graph known report.items board.entry.journal
+        → IsInOrder total report.items → IsReport workers report.items → IfOk result (λ o. IsOutcome board.entry.graph known total workers o) }
 {
     board.post_rest(alloc, None)?;
     let Some(solution) = board.solution(alloc)? else {

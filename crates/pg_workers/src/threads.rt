@@ -9,8 +9,9 @@ ghost use Rattle.pg_workers.specs.Tickets.{fresh};
 
 use crate::jobs::Ticket;
 use crate::report::ReportRow;
-use crate::worker::{Gate, RunJobs, Search, Task, Worker};
+use crate::worker::{Gate, RunJobs, Task, Worker};
 use pg_board::Share;
+use pg_finders::Finder;
 use pg_game::Memory;
 use std::alloc::Global;
 use std::marker::PhantomData;
@@ -59,7 +60,7 @@ pub(crate) fn start_all<
     L: Ledger + Send + Sync,
     J: RunJobs + Send + Sync,
     G: Gate,
-    F: Search,
+    F: Finder,
     R: Threads + Wait + Sync,
 >(task: &'x Task<'x, 'g, L, J, G, F, R>, mut workers: Vec<Worker<L, J>>) -> Vec<Worker<L, J>>
     ensures { vec_len result ≡ vec_len workers }
@@ -111,7 +112,7 @@ fn start_each<
     L: Ledger + Send + Sync,
     J: RunJobs + Send + Sync,
     G: Gate,
-    F: Search,
+    F: Finder,
     R: Threads + Wait + Sync,
 >(scope: &Scope<'s, E>, task: &'x Task<'x, 'g, L, J, G, F, R>, workers: IterMut<'x, Worker<L, J>>) {
     for worker in workers {

@@ -1,21 +1,20 @@
 //! A worker draws a job, searches for dominions on a copy of the board's unsettled part, checks each claim without the lock and
 //! settles the checked claims. It counts the answers in the job's row, and draws again until no job is left.
 
-ghost use Rattle.std.specs.Prelude.{◌≡◌, ◌+◌, ◌^◌, ◌≤◌, ◌<◌, ℕ, All, false, true, IfOk, IsFalse, OnErr, Result, Some, length, map};
+ghost use Rattle.std.specs.Prelude.{◌≡◌, ◌+◌, ◌^◌, ◌≤◌, ◌<◌, ℕ, All, true, IsFalse, Some, length, map};
 ghost use Rattle.std.specs.Vec.{vec_capacity};
-ghost use Rattle.pg_board.specs.declared.journal.Refusal.{Refusal};
-ghost use Rattle.pg_workers.specs.private.Answers.{AreNoted, IsAnswerTo, IsJobRow, IsSearched, drawn_row};
-ghost use Rattle.pg_workers.specs.Report.{AreCounts, IsDrawnRow, settled_in};
-ghost use Rattle.pg_workers.specs.private.Report.{answered, noted};
-ghost use Rattle.pg_board.specs.Work.{job_of, total_of};
+ghost use Rattle.pg_board.specs.Office.{IsRaised};
+ghost use Rattle.pg_board.specs.Work.{total_of};
+ghost use Rattle.pg_workers.specs.Report.{IsDrawnRow, settled_in};
+ghost use Rattle.pg_workers.specs.private.Report.{AreCounted, IsWorkersRow, answered};
 
 use crate::jobs::{Jobs, Ticket};
+use crate::known::KnownOf;
 use crate::report::ReportRow;
 use pg_board::{Office, Options, Refusal, Share};
 use pg_dominion::{Claim, check_claim};
-use pg_finders::{Copied, Finder, Found, Job};
+use pg_finders::{Finder, Found};
 use pg_game::{Game, Memory};
-use pg_text::Known;
 use std::alloc::{AllocError, Global};
 use std::marker::{Brand, PhantomData};
 use std::sync::Wait;
@@ -57,39 +56,15 @@ impl RunJobs for Brand {
     ghost workers = { 0 };
 }
 
-/// A search for a job on a copy, which every finder is. A contract that says `finds` of a result holds only of a result that the
-/// search returned for this copy and this job.
-pub(crate) trait Search: Sync {
-    ghost use Rattle.std.specs.Prelude.{IfOk};
-    ghost use Rattle.pg_finders.specs.declared.inside.Copied.{Copied};
-    ghost use Rattle.pg_finders.specs.declared.finder.Job.{Job};
-    ghost use Rattle.pg_finders.specs.declared.finder.Found.{Found};
-
-    ghost finds: { Self → Copied → Job → Found → Type 0 };
-
-    fn search(&self, alloc: Global, copied: &Copied, job: &Job) -> Result<Found, Memory>
-        ensures { IfOk result (finds self.now copied.now job.now) };
-}
-
-impl<F: Finder> Search for F {
-    ghost finds = { λ _ _ _ _. Unit {0} };
-
-    fn search(&self, alloc: Global, copied: &Copied, job: &Job) -> Result<Found, Memory> {
-        self.find(alloc, copied, job)
-    }
-}
-
 /// How a run goes: its handle and allocator, its options, the game and what is known of it, and what its workers call.
 #[derive(Drop)]
 pub(crate) struct Setup<'x, G, F, R> {
     pub rt: &'x R,
     pub alloc: Global,
     pub options: &'x Options,
-    pub game: &'x Game,
-    pub known: &'x Known,
+    pub start: &'x KnownOf<'x>,
     pub gate: &'x G,
     pub finder: &'x F,
-    ghost size: { length known.now.rows ≤ length game.now },
     ghost workers: { (1 ≤ options.now.workers) × (options.now.workers ≤ 64) },
 }
 
@@ -101,7 +76,7 @@ pub(crate) struct Task<'x, 'g, L: Ledger, J: RunJobs, G, F, R> {
     pub jobs: &'x Jobs,
     pub of_run: PhantomData<J>,
     ghost drawn_from: { jobs.now.series ≡ J.series },
-    ghost total: { J.series.total ≡ total_of setup.now.options.now.bound (length setup.now.game.now) },
+    ghost total: { J.series.total ≡ total_of setup.now.options.now.bound (length setup.now.start.now.game.now) },
 }
 
 /// What one worker has. The calling thread lends it to the worker's thread; afterwards only this type says what it is.
@@ -123,7 +98,7 @@ pub(crate) struct Worker<L: Ledger, J: RunJobs> {
 
 impl<L: Ledger, J: RunJobs> Worker<L, J> {
     /// A worker's whole run: it ends once a draw has found no job left.
-    pub(crate) fn work<G: Gate, F: Search, R: Wait>(&mut self, task: &Task<'_, '_, L, J, G, F, R>)
+    pub(crate) fn work<G: Gate, F: Finder, R: Wait>(&mut self, task: &Task<'_, '_, L, J, G, F, R>)
         ensures { self.new.ticket.told_none ≡ true }
     {
         for _ in task.setup.rt.forever() {
@@ -135,7 +110,7 @@ impl<L: Ledger, J: RunJobs> Worker<L, J> {
     }
 
     /// Draws a number and does its job, unless no job is left. Returns whether one was.
-    fn turn<G: Gate, F: Search, R: Wait>(&mut self, task: &Task<'_, '_, L, J, G, F, R>) -> bool
+    fn turn<G: Gate, F: Finder, R: Wait>(&mut self, task: &Task<'_, '_, L, J, G, F, R>) -> bool
         ensures { IsFalse result → self.new.ticket.told_none ≡ true }
     {
         let Worker {
@@ -154,15 +129,11 @@ impl<L: Ledger, J: RunJobs> Worker<L, J> {
     }
 }
 
-impl<'x, 'g, L: Ledger, J: RunJobs, G: Gate, F: Search, R: Wait> Task<'x, 'g, L, J, G, F, R> {
+impl<'x, 'g, L: Ledger, J: RunJobs, G: Gate, F: Finder, R: Wait> Task<'x, 'g, L, J, G, F, R> {
     /// Does one job and returns its row. The share's amount rises by the number settled.
     fn do_job(&self, share: &mut Share<L>, worker: u32, number: u64) -> ReportRow
         requires { number < J.series.total }
-        ensures row { IsJobRow F.finds self.now.setup.now.finder.now
-            (job_of self.now.setup.now.options.now.bound self.now.setup.now.options.now.budget (length self.now.setup.now.game.now) number)
-            share.old number worker result }
-        ensures job { (result.job ≡ number) × (result.worker ≡ Some worker) }
-        ensures counts { AreCounts result }
+        ensures row { IsWorkersRow number worker result }
         ensures settled { share.new ≡ share.old + result.settled }
     {
         let setup = self.setup;
@@ -176,14 +147,11 @@ impl<'x, 'g, L: Ledger, J: RunJobs, G: Gate, F: Search, R: Wait> Task<'x, 'g, L,
     /// The result of the search for the job of this number on a copy, and the copy's game.
     fn search_copy(&self, share: &Share<L>, number: u64) -> Result<(Found, &'g Game), Memory>
         requires { number < J.series.total }
-        ensures { IfOk result (λ r. IsSearched F.finds self.now.setup.now.finder.now
-            (job_of self.now.setup.now.options.now.bound self.now.setup.now.options.now.budget (length self.now.setup.now.game.now) number)
-            share.now r.1.now r.0) }
     {
         let setup = self.setup;
-        let job = setup.options.job(setup.game.len(), number);
+        let job = setup.options.job(setup.start.game.len(), number);
         let copied = self.office.copy(setup.rt, setup.alloc, share)?;
-        let found = setup.finder.search(setup.alloc, &copied, &job)?;
+        let found = setup.finder.find(setup.alloc, &copied, &job)?;
         Ok((found, copied.inside.game()))
     }
 
@@ -195,10 +163,7 @@ impl<'x, 'g, L: Ledger, J: RunJobs, G: Gate, F: Search, R: Wait> Task<'x, 'g, L,
         number: u64,
         found: Result<(Found, &Game), Memory>,
     ) -> ReportRow
-        ensures noted { IfOk found.entry (λ f. AreNoted f.1.now f.0.claims.items (drawn_row number worker f.0.gave_up false) result) }
-        ensures memory { OnErr found.entry (result ≡ drawn_row number worker false true) }
-        ensures job { (result.job ≡ number) × (result.worker ≡ Some worker) }
-        ensures counts { AreCounts result }
+        ensures row { IsWorkersRow number worker result }
         ensures settled { share.new ≡ share.old + result.settled }
     {
         let mut row = ReportRow::blank(number);
@@ -206,7 +171,7 @@ impl<'x, 'g, L: Ledger, J: RunJobs, G: Gate, F: Search, R: Wait> Task<'x, 'g, L,
         match found {
             Ok((Found { claims, gave_up }, game)) => {
                 row.gave_up = gave_up;
-                self.post_all(share, worker, game, claims, &mut row);
+                self.settle_all(share, worker, game, claims, &mut row);
             }
             Err(AllocError) => row.memory = true,
         }
@@ -215,7 +180,7 @@ impl<'x, 'g, L: Ledger, J: RunJobs, G: Gate, F: Search, R: Wait> Task<'x, 'g, L,
 
     /// Checks and settles all claims in order, and counts the results. Every claim counts as posted, stale or refused, unless
     /// memory was refused.
-    fn post_all(
+    fn settle_all(
         &self,
         share: &mut Share<L>,
         worker: u32,
@@ -225,37 +190,12 @@ impl<'x, 'g, L: Ledger, J: RunJobs, G: Gate, F: Search, R: Wait> Task<'x, 'g, L,
     )
         requires share { row.old.settled ≤ share.old }
         requires spare { answered row.old + length claims.items < 2 ^ 64 }
-        ensures noted { AreNoted game.now claims.items row.old row.new }
-        ensures all { row.new.memory ≡ false → answered row.new ≡ answered row.old + length claims.items }
-        ensures few { answered row.new ≤ answered row.old + length claims.items }
-        ensures same { (row.new.job ≡ row.old.job) × (row.new.worker ≡ row.old.worker) × (row.new.gave_up ≡ row.old.gave_up) }
-        ensures counts { AreCounts row.old → AreCounts row.new }
-        ensures settled { share.new + row.old.settled ≡ share.old + row.new.settled }
+        ensures { AreCounted (length claims.items) row.old row.new share.old share.new }
     {
         for claim in claims {
-            self.post(share, worker, game, &claim, row);
+            let answer = self.settle_claim(share, worker, game, &claim);
+            row.note(answer);
         }
-    }
-
-    /// Checks and settles one claim, and counts the answer in the job's row.
-    fn post(
-        &self,
-        share: &mut Share<L>,
-        worker: u32,
-        game: &Game,
-        claim: &Claim,
-        row: &mut ReportRow,
-    )
-        requires share { row.old.settled ≤ share.old }
-        requires spare { answered row.old + 1 < 2 ^ 64 }
-        ensures noted { (answer : Result ℕ Refusal) × IsAnswerTo game.now claim.now share.old answer × (row.new ≡ noted row.old answer) }
-        ensures counts { AreCounts row.old → AreCounts row.new }
-        ensures settled { share.new + row.old.settled ≡ share.old + row.new.settled }
-    {
-        let answer = self.settle_claim(share, worker, game, claim);
-        // for the proof: the share's amount has 64 bits, so the row's sum of settled vertices fits
-        let _amount = share.amount();
-        row.note(answer);
     }
 
     /// Checks a claim on the game without the lock, and settles it.
@@ -266,9 +206,7 @@ impl<'x, 'g, L: Ledger, J: RunJobs, G: Gate, F: Search, R: Wait> Task<'x, 'g, L,
         game: &Game,
         claim: &Claim,
     ) -> Result<u32, Refusal>
-        ensures answer { IsAnswerTo game.now claim.now share.old result }
-        ensures added { IfOk result (λ n. (1 ≤ n) × (share.new ≡ share.old + n)) }
-        ensures unchanged { OnErr result (share.new ≡ share.old) }
+        ensures { IsRaised share.old share.new result }
     {
         let Setup { rt, alloc, .. } = self.setup;
         let checked = check_claim(*alloc, game, claim)?;

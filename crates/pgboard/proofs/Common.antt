@@ -11,7 +11,7 @@ pub use Rattle.pg_game.proofs.Members.{Contains-one}
 pub use Rattle.pg_text.proofs.Common.{SolutionRows, SpellsSolution, drop_more, join_with_byte, numeral, written_winners}
 pub use Rattle.pg_text.proofs.Exact.{chosen_below, edge_below, exact_rows, none_below, same_or_not}
 pub use Rattle.pg_text.proofs.Numerals.{decimal_is_numeral}
-pub use Rattle.pg_text.proofs.WrittenReads.{all_at}
+pub use Rattle.pg_game.proofs.AllElements.{all_at}
 pub use Rattle.pg_text.specs.Known.{IsKnownTextOf, known_at}
 pub use Rattle.pg_text.specs.Reading.{IsTextOf, max_text}
 pub use Rattle.pg_dominion.proofs.Common.{AllByRecursion}

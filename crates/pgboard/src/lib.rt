@@ -16,6 +16,6 @@ pub use arguments::Asked;
 pub use command::asked;
 pub use device::{Failed, Sink, Source, Std, read_text};
 pub use fault::{AskedFault, KnownFault, RunFault};
-pub use run::{run_asked, run_over};
+pub use run::run_asked;
 pub use solve::{SolveOptions, run_solve, run_trace};
 pub use verify::{Verdict, run_joined, run_tidy, run_verify};

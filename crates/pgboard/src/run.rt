@@ -7,39 +7,18 @@ ghost use Rattle.pgboard.specs.Device.{HasFailed};
 ghost use Rattle.pgboard.specs.Run.{Writes};
 
 use crate::arguments::Asked;
-use crate::device::{Sink, Source, write_all};
+use crate::device::{Sink, Source, Std, write_all};
 use crate::fault::RunFault;
-use crate::solve::{Run, options_of, run_trace};
+use crate::solve::{SolveOptions, run_solve, run_trace};
 use crate::verify::{run_joined, run_tidy, run_verify};
-use pg_finders::{Finder, Standard};
-use pg_workers::{Gate, Pass};
+use pg_finders::Finder;
+use pg_workers::Gate;
 use std::alloc::Global;
 use std::sync::Wait;
 use std::thread::Threads;
 
-/// Runs what was asked for as the program does: by the finder `Standard`, with a gate that holds nobody. The status is that of
-/// the outcome. All that is read and written goes through the arguments.
-pub fn run_over<I: Source, S: Source, O: Sink, R: Threads + Wait + Sync>(
-    rt: &R,
-    alloc: Global,
-    asked: &Asked,
-    input: &mut I,
-    second: &mut S,
-    out: &mut O,
-) -> Result<u8, RunFault>
-    requires { IsInRange asked.now }
-    ensures reads { ReadsFor asked.now result (I.left input.old) (I.read_failures input.old) (I.read_failures input.new) (input.new ≡ input.old)
-        (second.new ≡ second.old) (S.read_failures second.new ≡ S.read_failures second.old)
-        (HasFailed (S.read_failures second.old) (S.read_failures second.new)) }
-    ensures writes { Writes (λ status text. IsOutputFor asked.now (I.left input.old) (S.left second.old) status text)
-        result (O.taken out.old) (O.taken out.new) (O.write_failures out.old) (O.write_failures out.new) }
-    ensures fault { IfErr result (λ e. FailsFor asked.now (I.left input.old) (S.left second.old) e) }
-{
-    run_asked(rt, alloc, asked, input, second, out, &Pass, &Standard)
-}
-
 /// Runs what was asked for, and returns the status. The second source has the solution where one is verified and what
-/// is known where it was given, and is not read otherwise.
+/// is known where it was given, and is not read otherwise. All that is read and written goes through the arguments.
 pub fn run_asked<I: Source, S: Source, O: Sink, R: Threads + Wait + Sync>(
     rt: &R,
     alloc: Global,
@@ -72,16 +51,17 @@ pub fn run_asked<I: Source, S: Source, O: Sink, R: Threads + Wait + Sync>(
             known,
             ..
         } => {
-            let run = Run {
-                rt,
-                alloc,
-                options: options_of(*workers, *bound),
-                gate,
-                finder,
+            let options = SolveOptions {
+                workers: *workers,
+                bound: *bound,
+                winners: *winners,
             };
             match known {
-                Some(_) => run.solve_from_known(input, second, out, *winners)?,
-                None => run.solve_from_nothing(input, out, *winners)?,
+                Some(_) => run_solve(rt, alloc, input, Some(second), out, &options, gate, finder)?,
+                None => {
+                    let nothing = None::<&mut Std<&[u8]>>;
+                    run_solve(rt, alloc, input, nothing, out, &options, gate, finder)?
+                }
             }
             Ok(0)
         }

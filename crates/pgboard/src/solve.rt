@@ -8,7 +8,7 @@ ghost use Rattle.pg_board.specs.Work.{total_of};
 ghost use Rattle.pg_workers.specs.Known.{known_rows, IsKnownRegion, IsSolveFault};
 ghost use Rattle.pg_workers.specs.Outcomes.{IsOutcome};
 ghost use Rattle.pgboard.specs.Device.{HasFailed};
-ghost use Rattle.pgboard.specs.Known.{left_in, IfGiven, IsReadKnown, OnGiven};
+ghost use Rattle.pgboard.specs.Known.{left_in, IfGiven, OnGiven};
 ghost use Rattle.pgboard.specs.Refused.{IsNotKnown, Names};
 ghost use Rattle.pgboard.specs.private.Refused.{IsUnsolved};
 ghost use Rattle.pgboard.specs.Run.{IsReadGame, IsNoGame, Reads, ReadsInTurn, Writes};
@@ -16,16 +16,16 @@ ghost use Rattle.pgboard.specs.Solving.{IsSolveText, IsSolveOutput, IsTraceText}
 ghost use Rattle.pg_text.specs.Known.{known_of};
 ghost use Rattle.pg_text.specs.Solution.{IsExactSolution};
 
-use crate::device::{Sink, Source, read_text, write_all};
+use crate::device::{Sink, Source, write_all};
 use crate::fault::{KnownFault, RunFault};
-use crate::reading::game_from;
+use crate::reading::{game_from, known_from, nothing_known};
 use crate::trace::write_trace;
 use pg_board::Refusal;
 use pg_dominion::ClaimFault;
 use pg_finders::Finder;
-use pg_game::{Game, Memory, Player, Sequence};
-use pg_text::{Known, Solution, SolutionTextFault, read_known, write_solution, write_winners};
-use pg_workers::{BUDGET, Gate, Options, Outcome, SolveFault, solve_game};
+use pg_game::{Game, Memory, Player};
+use pg_text::{Known, Solution, write_solution, write_winners};
+use pg_workers::{BUDGET, Gate, KnownOf, Options, Outcome, SolveFault, solve_game};
 use std::alloc::Global;
 use std::sync::Wait;
 use std::thread::Threads;
@@ -68,7 +68,7 @@ pub fn run_solve<I: Source, K: Source, O: Sink, R: Threads + Wait + Sync>(
         ⊎ (IsNoGame (I.left input.old) e ⊎ ((g : Graph) × IsReadGame (I.left input.old) g × IsNotKnown g (left_in K.left known.entry) e))) }
     ensures alone { IfErr result (λ e. known.entry ≡ None → (e ≡ RunFault.Write) ⊎ IsNoGame (I.left input.old) e) }
 {
-    let run = Run {
+    let solver = Solver {
         rt,
         alloc,
         options: options_of(options.workers, options.bound),
@@ -76,8 +76,8 @@ pub fn run_solve<I: Source, K: Source, O: Sink, R: Threads + Wait + Sync>(
         finder,
     };
     match known {
-        Some(known) => run.solve_from_known(input, known, out, options.winners),
-        None => run.solve_from_nothing(input, out, options.winners),
+        Some(known) => solver.solve_from_known(input, known, out, options.winners),
+        None => solver.solve_from_nothing(input, out, options.winners),
     }
 }
 
@@ -98,7 +98,7 @@ pub fn run_trace<I: Source, O: Sink, R: Threads + Wait + Sync>(
         result (O.taken out.old) (O.taken out.new) (O.write_failures out.old) (O.write_failures out.new) }
     ensures fault { IfErr result (λ e. (e ≡ RunFault.Write) ⊎ IsNoGame (I.left input.old) e) }
 {
-    let run = Run {
+    let solver = Solver {
         rt,
         alloc,
         options: options_of(workers, TRACE_BOUND),
@@ -113,7 +113,7 @@ pub fn run_trace<I: Source, O: Sink, R: Threads + Wait + Sync>(
         game: &game,
         known: &known,
     };
-    let outcome = run.outcome(&start)?;
+    let outcome = solver.outcome(&start)?;
     let entries = outcome.entries.as_slice();
     let text = write_trace(alloc, &game, entries, outcome.report.as_slice())?;
     write_all(text.as_slice(), out)
@@ -123,7 +123,7 @@ pub fn run_trace<I: Source, O: Sink, R: Threads + Wait + Sync>(
 const TRACE_BOUND: u32 = 4;
 
 /// The options of a run with so many workers and this bound.
-pub(crate) fn options_of(workers: u32, bound: u32) -> Options
+fn options_of(workers: u32, bound: u32) -> Options
     ensures workers { result.workers ≡ workers }
     ensures bound { result.bound ≡ bound }
 {
@@ -134,21 +134,21 @@ pub(crate) fn options_of(workers: u32, bound: u32) -> Options
     }
 }
 
-/// What a run that solves a game needs: its handle, its allocator, its options, and what its workers call.
+/// What a run that solves a game needs beside the game: its handle, its allocator, its options, and what its workers call.
 #[derive(Drop)]
-pub(crate) struct Run<'x, G, F, R> {
-    pub rt: &'x R,
-    pub alloc: Global,
-    pub options: Options,
-    pub gate: &'x G,
-    pub finder: &'x F,
+struct Solver<'x, G, F, R> {
+    rt: &'x R,
+    alloc: Global,
+    options: Options,
+    gate: &'x G,
+    finder: &'x F,
     ghost workers: { (1 ≤ options.workers) × (options.workers ≤ 64) },
     ghost bound: { options.bound ≤ 8 },
 }
 
-impl<G: Gate, F: Finder, R: Threads + Wait + Sync> Run<'_, G, F, R> {
+impl<G: Gate, F: Finder, R: Threads + Wait + Sync> Solver<'_, G, F, R> {
     /// Reads a game and then what is known of it, solves it, and writes its solution or its winners.
-    pub fn solve_from_known<I: Source, K: Source, O: Sink>(
+    fn solve_from_known<I: Source, K: Source, O: Sink>(
         &self,
         input: &mut I,
         known: &mut K,
@@ -173,7 +173,7 @@ impl<G: Gate, F: Finder, R: Threads + Wait + Sync> Run<'_, G, F, R> {
     }
 
     /// Reads a game of which nothing is known, solves it, and writes its solution or its winners.
-    pub fn solve_from_nothing<I: Source, O: Sink>(
+    fn solve_from_nothing<I: Source, O: Sink>(
         &self,
         input: &mut I,
         out: &mut O,
@@ -211,7 +211,6 @@ impl<G: Gate, F: Finder, R: Threads + Wait + Sync> Run<'_, G, F, R> {
     fn outcome(&self, start: &KnownOf<'_>) -> Result<Outcome, RunFault>
         ensures outcome { IfOk result (λ o. IsOutcome start.now.game.now start.now.known.now.rows
             (total_of self.now.options.bound (length start.now.game.now)) self.now.options.workers o) }
-        ensures regions { IfOk result (λ _. (p : Player) → IsKnownRegion start.now.game.now start.now.known.now.rows p) }
         ensures fault { IfErr result (λ e. IsUnsolved start.now.game.now start.now.known.now.rows e) }
     {
         match solve_game(
@@ -224,85 +223,59 @@ impl<G: Gate, F: Finder, R: Threads + Wait + Sync> Run<'_, G, F, R> {
             self.finder,
         ) {
             Ok(outcome) => Ok(outcome),
-            Err(fault) => Err(start.unsolved(fault)),
+            Err(fault) => Err(unsolved(start, fault)),
         }
     }
 }
 
-/// What is known of the game by the text of a source.
-fn known_from<S: Source>(alloc: Global, game: &Game, source: &mut S) -> Result<Known, RunFault>
-    ensures size { IfOk result (λ known. length known.rows ≡ length game.now) }
-    ensures known { IfOk result (λ known. IsReadKnown game.now (S.left source.old) known.rows) }
-    ensures fault { IfErr result (λ e. IsNotKnown game.now (S.left source.old) e) }
-    ensures reads { Reads result (S.read_failures source.old) (S.read_failures source.new) }
+/// Why the game is not solved.
+fn unsolved(of: &KnownOf<'_>, fault: SolveFault) -> RunFault
+    requires { IsSolveFault of.now.game.now of.now.known.now.rows fault }
+    ensures { IsUnsolved of.now.game.now of.now.known.now.rows result }
 {
-    let text = read_text(alloc, source)?;
-    match read_known(alloc, game, text.as_slice()) {
-        Ok(known) => Ok(known),
-        Err(SolutionTextFault::Memory) => Err(RunFault::Memory),
-        Err(fault) => Err(RunFault::Solution(fault)),
+    match fault {
+        SolveFault::Known(player, refusal) => RunFault::Known(known_fault(of, player, refusal)),
+        SolveFault::Memory => RunFault::Memory,
     }
 }
 
-/// A game and what is known of it, which has no more rows than the game has vertices.
-#[derive(Clone, Copy)]
-struct KnownOf<'a> {
-    game: &'a Game,
-    known: &'a Known,
-    ghost size: { length known.now.rows ≤ length game.now },
+/// The reason of the refused post of a player's known set, by identifiers.
+fn known_fault(of: &KnownOf<'_>, player: Player, refusal: Refusal) -> KnownFault
+    requires { IsSolveFault of.now.game.now of.now.known.now.rows (SolveFault.Known player refusal) }
+    ensures { Names of.now.game.now (known_rows of.now.game.now of.now.known.now.rows player) refusal result }
+{
+    let game = of.game;
+    // for the proof alone, which takes from it that the game is one
+    let _n = game.len();
+    match refusal {
+        Refusal::Claim(ClaimFault::Shape(row)) => {
+            let v = vertex_in_row(of, player, row);
+            KnownFault::Choice(game.id(v))
+        }
+        Refusal::Claim(ClaimFault::Cycle(v)) => KnownFault::Cycle(game.id(v)),
+        Refusal::Lost(v) => KnownFault::Lost(game.id(v)),
+        Refusal::Open(v, w) => KnownFault::Open(game.id(v), game.id(w)),
+        Refusal::Claim(ClaimFault::Memory) => unreachable!(),
+        Refusal::Foreign(_) | Refusal::Stale | Refusal::Memory => unreachable!(),
+    }
 }
 
-impl KnownOf<'_> {
-    /// Why the game is not solved.
-    fn unsolved(&self, fault: SolveFault) -> RunFault
-        requires { IsSolveFault self.now.game.now self.now.known.now.rows fault }
-        ensures { IsUnsolved self.now.game.now self.now.known.now.rows result }
-    {
-        match fault {
-            SolveFault::Known(player, refusal) => {
-                RunFault::Known(self.known_fault(player, refusal))
+/// The vertex in a row of the player's known set: of his known vertices, in order, the one with this many before it.
+fn vertex_in_row(of: &KnownOf<'_>, player: Player, row: u32) -> u32
+    requires { row < length (known_rows of.now.game.now of.now.known.now.rows player) }
+    ensures vertex { result < length of.now.game.now }
+    ensures row { option_map (λ r. r.0) (slice_get (known_rows of.now.game.now of.now.known.now.rows player) row) ≡ Some result }
+{
+    let mut before = 0u32;
+    for v in 0..of.game.len() {
+        if is_known_of(of.known, player, v) {
+            if before == row {
+                return v;
             }
-            SolveFault::Memory => RunFault::Memory,
+            before += 1;
         }
     }
-
-    /// The reason of the refused post of a player's known set, by identifiers.
-    fn known_fault(&self, player: Player, refusal: Refusal) -> KnownFault
-        requires { IsSolveFault self.now.game.now self.now.known.now.rows (SolveFault.Known player refusal) }
-        ensures { Names self.now.game.now (known_rows self.now.game.now self.now.known.now.rows player) refusal result }
-    {
-        // for the proof alone, which takes from it that the game is one
-        let _n = self.game.len();
-        match refusal {
-            Refusal::Claim(ClaimFault::Shape(row)) => {
-                let v = self.vertex_in_row(player, row);
-                KnownFault::Choice(self.game.id(v))
-            }
-            Refusal::Claim(ClaimFault::Cycle(v)) => KnownFault::Cycle(self.game.id(v)),
-            Refusal::Lost(v) => KnownFault::Lost(self.game.id(v)),
-            Refusal::Open(v, w) => KnownFault::Open(self.game.id(v), self.game.id(w)),
-            Refusal::Claim(ClaimFault::Memory) => unreachable!(),
-            Refusal::Foreign(_) | Refusal::Stale | Refusal::Memory => unreachable!(),
-        }
-    }
-
-    /// The vertex in a row of the player's known set: of his known vertices, in order, the one with this many before it.
-    fn vertex_in_row(&self, player: Player, row: u32) -> u32
-        requires { row < length (known_rows self.now.game.now self.now.known.now.rows player) }
-        ensures vertex { result < length self.now.game.now }
-        ensures row { option_map (λ r. r.0) (slice_get (known_rows self.now.game.now self.now.known.now.rows player) row) ≡ Some result }
-    {
-        let mut before = 0u32;
-        for v in 0..self.game.len() {
-            if is_known_of(self.known, player, v) {
-                if before == row {
-                    return v;
-                }
-                before += 1;
-            }
-        }
-        unreachable!()
-    }
+    unreachable!()
 }
 
 /// Whether the player is known to win the vertex.
@@ -317,15 +290,6 @@ fn is_known_of(known: &Known, player: Player, v: u32) -> bool
     match rows[at] {
         Some((winner, _)) => winner == player,
         None => false,
-    }
-}
-
-/// What is known of a game without a text: nothing, which has no rows.
-fn nothing_known(alloc: Global) -> Known
-    ensures { result.rows ≡ [] }
-{
-    Known {
-        rows: Sequence::new(Vec::new(alloc)),
     }
 }
 

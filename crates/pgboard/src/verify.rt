@@ -5,23 +5,20 @@ ghost use Rattle.std.specs.Prelude.{◌≡◌, ◌≤◌, ◌⊎◌, IfErr, IfSo
 ghost use Rattle.std.specs.Io.KnownBytes.{Appends, Keeps};
 ghost use Rattle.pg_game.specs.Graph.{Graph};
 ghost use Rattle.pg_text.specs.Written.{written_game, numeral};
-ghost use Rattle.pg_text.specs.Reading.{max_text, IsSolutionTextOf, IsSolutionFaultOf};
+ghost use Rattle.pg_text.specs.Reading.{max_text};
 ghost use Rattle.pgboard.specs.Device.{HasFailed, AppendsPrefix};
 ghost use Rattle.pgboard.specs.Joined.{game_part, solution_part, IsJudged, verdict_line, JudgingFailed, IsVerdict, fault_text};
 ghost use Rattle.pgboard.specs.Run.{IsReadGame, IsNoGame, IsNoSolution, Reads, ReadsInTurn, Writes};
-ghost use Rattle.pgboard.specs.private.Run.{IsRefusedSolution, IsVerdictOn, IsReadSolution};
+ghost use Rattle.pgboard.specs.private.Run.{IsRefusedSolution, IsVerdictOn};
 ghost use Rattle.pgboard.specs.Status.{verdict_status};
 
 use crate::device::{Sink, Source, read_text, write_all};
 use crate::fault::RunFault;
-use crate::reading::{forward_game_from, forward_game_of};
+use crate::reading::{forward_game_from, forward_game_of, refused_solution, solution_from};
 use memchr::memchr;
 use pg_dominion::{SolutionFault, check_forward_solution};
 use pg_game::ForwardGame;
-use pg_text::{
-    Solution, SolutionTextFault, put_number, read_forward_solution, take_solution,
-    write_forward_game,
-};
+use pg_text::{Solution, put_number, read_forward_solution, write_forward_game};
 use std::alloc::{AllocError, Global};
 
 /// The verdict on winners and choices for all vertices of a game.
@@ -165,17 +162,7 @@ fn verdict_of(alloc: Global, game: ForwardGame, text: &[u8]) -> Result<Verdict, 
 {
     match read_forward_solution(alloc, &game, text) {
         Ok(solution) => verdict_on(alloc, &game, &solution),
-        Err(fault) => Err(refused_for(fault)),
-    }
-}
-
-/// Why a run has no solution.
-fn refused_for(fault: SolutionTextFault) -> RunFault
-    ensures { (g : Graph) (text : List ℕ) → IsSolutionFaultOf g text fault → IsRefusedSolution g text result }
-{
-    match fault {
-        SolutionTextFault::Memory => RunFault::Memory,
-        fault => RunFault::Solution(fault),
+        Err(fault) => Err(refused_solution(fault)),
     }
 }
 
@@ -217,22 +204,4 @@ fn verdict_from<S: Source>(
 {
     let solution = solution_from(alloc, &game, source)?;
     verdict_on(alloc, &game, &solution)
-}
-
-/// The winners and choices that the text of a source spells for a game.
-fn solution_from<S: Source>(
-    alloc: Global,
-    game: &ForwardGame,
-    source: &mut S,
-) -> Result<Solution, RunFault>
-    ensures fit { IfOk result (λ s. length s.rows ≡ length game.now) }
-    ensures rows { IfOk result (λ s. IsReadSolution game.now (S.left source.old) s.rows) }
-    ensures fault { IfErr result (λ e. IsNoSolution game.now (S.left source.old) e) }
-    ensures reads { Reads result (S.read_failures source.old) (S.read_failures source.new) }
-{
-    let text = read_text(alloc, source)?;
-    match take_solution(alloc, game, text) {
-        Ok(taken) => Ok(taken),
-        Err(fault) => Err(refused_for(fault)),
-    }
 }

@@ -9,8 +9,8 @@ pub use Rattle.pg_dominion.proofs.Common.{AllByRecursion, IsGame, IsRightRow, ge
 pub use Rattle.pg_finders.proofs.Common.{AreClaims, Claim, ClaimRows, ClosedWalk-weaker, Even, Graph, HasEdge, In, IsGoodIn, IsSubgame, KeptEdge, NoneHas, Odd}
 pub use Rattle.pg_finders.proofs.Common.{Player, VertexSet, and_from, choice_in, common_steps, is_same, length-replicate, members, named, opponent, or_cases}
 pub use Rattle.pg_finders.proofs.Common.{own_or_other, owner_of, same_player}
-pub use Rattle.pgboard_c.specs.Arrays.{GameArrays, IsBadOwner, IsBadPriority, IsBadRow, IsBadWinner}
-pub use Rattle.pgboard_c.specs.Arrays.{array_spec, array_specs, choice_from, game_arrays, no_choice}
+pub use Rattle.pgboard_c.specs.Arrays.{GameLists, IsBadOwner, IsBadPriority, IsBadRow, IsBadWinner}
+pub use Rattle.pgboard_c.specs.Arrays.{array_spec, array_specs, choice_from, game_lists, no_choice}
 pub use Rattle.pgboard_c.specs.Arrays.{specs_below}
 pub use Rattle.pg_text.specs.Known.{KnownRows, known_at, known_of, known_choice}
 pub use Rattle.pgboard_c.specs.Known.{HasRightChoice, HaveRightChoices, IsBadKnownWinner, known_from}

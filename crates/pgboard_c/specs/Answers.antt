@@ -1,5 +1,5 @@
 -- The answers of the calls on arrays, and their refusals: the first reason that applies, for the least vertex.
-use Rattle.std.specs.Prelude.{ℕ, ◌≡◌, ◌≢◌, ◌+◌, length, slice_index, Option, Some, IsSome}
+use Rattle.std.specs.Prelude.{ℕ, ◌≡◌, ◌≢◌, ◌+◌, length, slice_index, Option, Some, IsSome, Result, MatchResult}
 use Rattle.pg_game.specs.Graph.{Graph}
 use Rattle.pg_game.specs.Specification.{first_fault}
 use Rattle.pg_game.specs.Least.{NoneHas, IsLeast}
@@ -10,16 +10,17 @@ use Rattle.pgboard_c.specs.declared.fault.ArrayName.TheVariants as array_name
 use Rattle.pgboard_c.specs.declared.fault.Structure.TheVariants as structure
 use Rattle.pgboard_c.specs.declared.fault.Fault.{Fault}
 use Rattle.pgboard_c.specs.declared.fault.Fault.TheVariants as fault
+use Rattle.pgboard_c.specs.declared.arrays.Results.{Results}
 use Rattle.pgboard_c.specs.Numbers.{structure_size}
-use Rattle.pgboard_c.specs.Arrays.{GameArrays, HaveLengths, IsBadRow, IsBadOwner, IsBadPriority, AreWellFormed, array_specs, IsGameOfArrays}
-use Rattle.pgboard_c.specs.Arrays.{ResultArrays, AreResults, IsBadWinner}
+use Rattle.pgboard_c.specs.Arrays.{GameLists, HaveLengths, IsBadRow, IsBadOwner, IsBadPriority, AreWellFormed, array_specs, IsGameOfArrays}
+use Rattle.pgboard_c.specs.Arrays.{ResultLists, AreResults, IsBadWinner, result_lists, IsSameStruct, AreUnchanged}
 
 -- a start for each vertex and one more, from 0 on
-abbrev pub HaveStarts : GameArrays → Type 0
+abbrev pub HaveStarts : GameLists → Type 0
 HaveStarts a = (length a.starts ≡ length a.owners + 1) × (slice_index a.starts 0 ≡ 0)
 
 -- the first array that does not fit those before it
-abbrev pub IsMisfit : GameArrays → ArrayName → Type 0
+abbrev pub IsMisfit : GameLists → ArrayName → Type 0
 IsMisfit a array_name.Priorities = length a.priorities ≢ length a.owners
 IsMisfit a array_name.Starts = (length a.priorities ≡ length a.owners) × (HaveStarts a → ⊥)
 IsMisfit a array_name.Targets =
@@ -28,7 +29,7 @@ IsMisfit a array_name.Winners = ⊥
 IsMisfit a array_name.Choices = ⊥
 
 -- why arrays are no game; refused memory says nothing of them
-abbrev pub IsArraysFault : GameArrays → Fault → Type 0
+abbrev pub IsArraysFault : GameLists → Fault → Type 0
 IsArraysFault a fault.Memory = Unit {0}
 IsArraysFault a (fault.Size structure.Game) = a.size ≢ structure_size structure.Game
 IsArraysFault a (fault.Lengths name) = (a.size ≡ structure_size structure.Game) × IsMisfit a name
@@ -39,50 +40,58 @@ IsArraysFault a (fault.Game f) = AreWellFormed a × (first_fault (array_specs a)
 IsArraysFault a other = ⊥
 
 -- the struct has its size, and one entry for each vertex in each array
-abbrev pub HaveSize : Graph → ResultArrays → Type 0
+abbrev pub HaveSize : Graph → ResultLists → Type 0
 HaveSize g r = (r.size ≡ structure_size structure.Results) × (length r.winners ≡ length g) × (length r.choices ≡ length g)
 
 -- the first of the two arrays with another length
-abbrev pub IsResultMisfit : Graph → ResultArrays → ArrayName → Type 0
+abbrev pub IsResultMisfit : Graph → ResultLists → ArrayName → Type 0
 IsResultMisfit g r array_name.Winners = length r.winners ≢ length g
 IsResultMisfit g r array_name.Choices = (length r.winners ≡ length g) × (length r.choices ≢ length g)
 IsResultMisfit g r other = ⊥
 
 -- the struct fits the game, and its arrays have the one solution's winners, and choices that make them a solution
-abbrev pub AreSolved : GameArrays → ResultArrays → Type 0
+abbrev pub AreSolved : GameLists → ResultLists → Type 0
 AreSolved a r =
     (g : Graph) × (rows : SolutionRows) × IsGameOfArrays a g × HaveSize g r × AreResults r.winners r.choices rows × IsExactSolution g rows
 
 -- why the struct for results does not fit the game's vertices
-abbrev pub AreUnfitResults : Graph → ResultArrays → Fault → Type 0
+abbrev pub AreUnfitResults : Graph → ResultLists → Fault → Type 0
 AreUnfitResults g r (fault.Size structure.Results) = r.size ≢ structure_size structure.Results
 AreUnfitResults g r (fault.Results name) = (r.size ≡ structure_size structure.Results) × IsResultMisfit g r name
 AreUnfitResults g r other = ⊥
 
 -- why solving has no result, with the results before the call; with a limit of steps also that it gave up, on a game and results that it
 -- could solve
-abbrev pub IsSolveFault : Option ℕ → GameArrays → ResultArrays → Fault → Type 0
+abbrev pub IsSolveFault : Option ℕ → GameLists → ResultLists → Fault → Type 0
 IsSolveFault limit a r (fault.Size structure.Results) = (g : Graph) × IsGameOfArrays a g × AreUnfitResults g r (fault.Size structure.Results)
 IsSolveFault limit a r (fault.Results name) = (g : Graph) × IsGameOfArrays a g × AreUnfitResults g r (fault.Results name)
 IsSolveFault limit a r fault.GaveUp = IsSome limit × ((g : Graph) × IsGameOfArrays a g × HaveSize g r)
 IsSolveFault limit a r other = IsArraysFault a other
 
+-- the game is solved, or not, and the results are unchanged
+abbrev pub IsSolveOutcome : Option ℕ → GameLists → Results → Results → Result (Unit {0}) Fault → Type 0
+IsSolveOutcome limit a old new result = MatchResult result
+    (λ _. AreSolved a (result_lists new) × IsSameStruct old new) (λ e. IsSolveFault limit a (result_lists old) e × AreUnchanged old new)
+
 -- why a solution's struct does not have winners and choices of the game's vertices
-abbrev pub IsUnfitSolution : Graph → ResultArrays → Fault → Type 0
+abbrev pub IsUnfitSolution : Graph → ResultLists → Fault → Type 0
 IsUnfitSolution g s (fault.Size structure.Solution) = s.size ≢ structure_size structure.Solution
 IsUnfitSolution g s (fault.Solution name) = (s.size ≡ structure_size structure.Solution) × IsResultMisfit g s name
 IsUnfitSolution g s other = ⊥
 
 -- the struct fits the game, and its arrays are a solution
-abbrev pub AreSolution : GameArrays → ResultArrays → Type 0
+abbrev pub AreSolution : GameLists → ResultLists → Type 0
 AreSolution a s =
     (g : Graph) × (rows : SolutionRows) × IsGameOfArrays a g × HaveSize g s × AreResults s.winners s.choices rows × IsSolution g rows
 
 -- why they are no solution, or not even winners and choices
-abbrev pub IsCheckFault : GameArrays → ResultArrays → Fault → Type 0
+abbrev pub IsCheckFault : GameLists → ResultLists → Fault → Type 0
 IsCheckFault a s (fault.Size structure.Solution) = (g : Graph) × IsGameOfArrays a g × IsUnfitSolution g s (fault.Size structure.Solution)
 IsCheckFault a s (fault.Solution name) = (g : Graph) × IsGameOfArrays a g × IsUnfitSolution g s (fault.Solution name)
 IsCheckFault a s (fault.Winner v) = (g : Graph) × IsGameOfArrays a g × HaveSize g s × IsLeast (IsBadWinner s.winners) v
 IsCheckFault a s (fault.Verdict f) =
     (g : Graph) × (rows : SolutionRows) × IsGameOfArrays a g × HaveSize g s × AreResults s.winners s.choices rows × FailsBy g rows f
 IsCheckFault a s other = IsArraysFault a other
+
+abbrev pub IsCheckOutcome : GameLists → ResultLists → Result (Unit {0}) Fault → Type 0
+IsCheckOutcome a s result = MatchResult result (λ _. AreSolution a s) (IsCheckFault a s)

@@ -9,29 +9,29 @@ use Rattle.pg_game.specs.Specification.{IsGameOf, max_number}
 use Rattle.pg_game.specs.Least.{NoneHas}
 use Rattle.pg_text.specs.GameText.{player_of}
 use Rattle.pg_text.specs.Solution.{SolutionRows, winner_of, choice_of}
-use Rattle.pgboard_c.specs.declared.arrays.Arrays.{Arrays}
+use Rattle.pgboard_c.specs.declared.arrays.GameArrays.{GameArrays}
 use Rattle.pgboard_c.specs.declared.arrays.Results.{Results}
 use Rattle.pgboard_c.specs.declared.arrays.SolutionArrays.{SolutionArrays}
 use Rattle.pgboard_c.specs.declared.fault.Structure.TheVariants as structure
 use Rattle.pgboard_c.specs.Numbers.{structure_size}
 
 -- vertex v has the targets from starts[v] on, before starts[v + 1]; the size is the one in the struct
-pub record GameArrays : Type 0 where
+pub record GameLists : Type 0 where
   pub size : ℕ
   pub owners : List ℕ
   pub priorities : List ℕ
   pub starts : List ℕ
   pub targets : List ℕ
 
-abbrev pub game_arrays : Arrays → GameArrays
-game_arrays a = record { size = a.size; owners = a.owners.now; priorities = a.priorities.now; starts = a.starts.now; targets = a.targets.now }
+abbrev pub game_lists : GameArrays → GameLists
+game_lists a = record { size = a.size; owners = a.owners.now; priorities = a.priorities.now; starts = a.starts.now; targets = a.targets.now }
 
-abbrev pub targets_of : GameArrays → ℕ → List ℕ
+abbrev pub targets_of : GameLists → ℕ → List ℕ
 targets_of a v = slice_range a.targets (slice_index a.starts v) (slice_index a.starts (v + 1))
 
 -- the struct has its size, and the arrays fit one another: an owner, a priority and a start for each vertex, and one start more; from 0
 -- to the number of targets
-pub record HaveLengths (a : GameArrays) : Type 0 where
+pub record HaveLengths (a : GameLists) : Type 0 where
   pub size : a.size ≡ structure_size structure.Game
   pub priorities : length a.priorities ≡ length a.owners
   pub starts : length a.starts ≡ length a.owners + 1
@@ -39,35 +39,35 @@ pub record HaveLengths (a : GameArrays) : Type 0 where
   pub last : slice_index a.starts (length a.owners) ≡ length a.targets
 
 -- the vertex's row ends before it begins, or after the targets
-abbrev pub IsBadRow : GameArrays → ℕ → Type 0
+abbrev pub IsBadRow : GameLists → ℕ → Type 0
 IsBadRow a v = (v < length a.owners) × ((slice_index a.starts (v + 1) < slice_index a.starts v) ⊎ (length a.targets < slice_index a.starts (v + 1)))
 
-abbrev pub IsBadOwner : GameArrays → ℕ → Type 0
+abbrev pub IsBadOwner : GameLists → ℕ → Type 0
 IsBadOwner a v = (v < length a.owners) × (1 < slice_index a.owners v)
 
-abbrev pub IsBadPriority : GameArrays → ℕ → Type 0
+abbrev pub IsBadPriority : GameLists → ℕ → Type 0
 IsBadPriority a v = (v < length a.owners) × (max_number < slice_index a.priorities v)
 
-pub record AreWellFormed (a : GameArrays) : Type 0 where
+pub record AreWellFormed (a : GameLists) : Type 0 where
   pub lengths : HaveLengths a
   pub rows : NoneHas (IsBadRow a)
   pub owners : NoneHas (IsBadOwner a)
   pub priorities : NoneHas (IsBadPriority a)
 
 -- the vertex of the arrays: its identifier is its number
-abbrev pub array_spec : GameArrays → ℕ → Spec
+abbrev pub array_spec : GameLists → ℕ → Spec
 array_spec a v = record { id = v; priority = slice_index a.priorities v; owner = player_of (slice_index a.owners v); successors = targets_of a v }
 
 -- the vertices of the arrays below a number, in order
-abbrev pub specs_below : GameArrays → ℕ → List Spec
+abbrev pub specs_below : GameLists → ℕ → List Spec
 specs_below a zero = []
 specs_below a (suc v) = specs_below a v ++ array_spec a v ∷ []
 
-abbrev pub array_specs : GameArrays → List Spec
+abbrev pub array_specs : GameLists → List Spec
 array_specs a = specs_below a (length a.owners)
 
 -- the game of the arrays
-abbrev pub IsGameOfArrays : GameArrays → Graph → Type 0
+abbrev pub IsGameOfArrays : GameLists → Graph → Type 0
 IsGameOfArrays a g = AreWellFormed a × IsGame g × IsGameOf (array_specs a) g
 
 -- the number for no choice
@@ -83,20 +83,24 @@ choice_number None = no_choice
 choice_number (Some w) = w
 
 -- winners and choices; the size is the one in the struct
-pub record ResultArrays : Type 0 where
+pub record ResultLists : Type 0 where
   pub size : ℕ
   pub winners : List ℕ
   pub choices : List ℕ
 
-abbrev pub solution_arrays : SolutionArrays → ResultArrays
-solution_arrays s = record { size = s.size; winners = s.winners.now; choices = s.choices.now }
+abbrev pub solution_lists : SolutionArrays → ResultLists
+solution_lists s = record { size = s.size; winners = s.winners.now; choices = s.choices.now }
 
-abbrev pub result_arrays : Results → ResultArrays
-result_arrays r = record { size = r.size; winners = r.winners.now; choices = r.choices.now }
+abbrev pub result_lists : Results → ResultLists
+result_lists r = record { size = r.size; winners = r.winners.now; choices = r.choices.now }
 
 -- the struct has the same size and the same two slices; the contents of these may differ
 abbrev pub IsSameStruct : Results → Results → Type 0
 IsSameStruct old new = (new.size ≡ old.size) × (new.winners.ghost_name ≡ old.winners.ghost_name) × (new.choices.ghost_name ≡ old.choices.ghost_name)
+
+-- so have the contents
+abbrev pub AreUnchanged : Results → Results → Type 0
+AreUnchanged old new = (result_lists new ≡ result_lists old) × IsSameStruct old new
 
 -- winners as digits, and choices, of all vertices
 pub record AreResults (winners choices : List ℕ) (rows : SolutionRows) : Type 0 where

@@ -1,8 +1,6 @@
--- The answers of the calls on a board and a text.
-use Rattle.std.specs.Prelude.{ℕ, ◌≡◌, ◌<◌, ◌+◌, [], List, length, Option, Some, None, IsSome}
-use Rattle.pg_game.specs.Graph.{Graph}
+-- The solution of a board as a text, and why there is none.
+use Rattle.std.specs.Prelude.{ℕ, ◌≡◌, ◌<◌, ◌+◌, List, length}
 use Rattle.pg_text.specs.Solution.{SolutionRows, IsExactSolution}
-use Rattle.pg_text.specs.Reading.{IsTextOf}
 use Rattle.pg_text.specs.Written.{written_solution}
 use Rattle.pg_board.specs.BoardRecord.{BoardRecord}
 use Rattle.pg_board.specs.Journal.{state_of, number_settled}
@@ -10,15 +8,8 @@ use Rattle.pg_board.specs.Full.{IsFull, AreStateRows}
 use Rattle.pgboard_c.specs.declared.fault.BoardFault.TheVariants as board_fault
 use Rattle.pgboard_c.specs.declared.fault.Fault.{Fault}
 use Rattle.pgboard_c.specs.declared.fault.Fault.TheVariants as fault
-use Rattle.pgboard_c.specs.Texts.{IsRefusedGameText}
-
--- the board of the text's game on which nothing is settled
-abbrev pub IsOpenedText : List ℕ → Option BoardRecord → Type 0
-IsOpenedText text b = (g : Graph) × IsTextOf text g × (b ≡ Some (record { graph = g; journal = [] }))
-
-abbrev pub IsOpenTextFault : Option BoardRecord → List ℕ → Fault → Type 0
-IsOpenTextFault b text (fault.Board board_fault.Open) = IsSome b
-IsOpenTextFault b text other = (b ≡ None) × IsRefusedGameText text other
+use Rattle.pgboard_c.specs.Texts.{IsWritten}
+use Rattle.pgboard_c.specs.Board.{SessionOutcome, IsReadOutcome}
 
 -- the board is full, and the text has its winners and choices, which are the game's solution
 abbrev pub IsSolutionText : BoardRecord → List ℕ → Type 0
@@ -32,3 +23,7 @@ IsSolutionTextFault s capacity (fault.Board (board_fault.Unsettled n)) =
     (IsFull s.graph (state_of s.journal) → ⊥) × (n + number_settled s.journal ≡ length s.graph)
 IsSolutionTextFault s capacity (fault.Capacity size) = (text : List ℕ) × IsSolutionText s text × (size ≡ length text) × (capacity < size)
 IsSolutionTextFault s capacity other = ⊥
+
+abbrev pub IsSolutionTextOutcome : List ℕ → List ℕ → ℕ → ℕ → SessionOutcome
+IsSolutionTextOutcome old new old_size size = IsReadOutcome (λ s. (answer : List ℕ) × IsSolutionText s answer × IsWritten old new size answer)
+    (λ s. IsSolutionTextFault s (length old)) ((new ≡ old) × (size ≡ old_size))

@@ -1,5 +1,5 @@
 -- What is known of a game in arrays, and why a known set is no region.
-use Rattle.std.specs.Prelude.{ℕ, ◌≡◌, ◌≢◌, ◌<◌, ◌==◌, List, length, slice_get, slice_index, if◌then◌else◌, Option, Some, None}
+use Rattle.std.specs.Prelude.{ℕ, ◌≡◌, ◌≢◌, ◌<◌, ◌==◌, List, length, slice_get, slice_index, if◌then◌else◌, Option, Some, None, Result, MatchResult}
 use Rattle.pg_game.specs.declared.player.Player.{Player}
 use Rattle.pg_game.specs.Graph.{Graph, HasEdge, owner_of}
 use Rattle.pg_game.specs.VertexSet.{In}
@@ -15,7 +15,8 @@ use Rattle.pgboard_c.specs.declared.fault.KnownSetFault.TheVariants as known_fau
 use Rattle.pgboard_c.specs.declared.fault.Structure.TheVariants as structure
 use Rattle.pgboard_c.specs.declared.fault.Fault.{Fault}
 use Rattle.pgboard_c.specs.declared.fault.Fault.TheVariants as fault
-use Rattle.pgboard_c.specs.Arrays.{GameArrays, ResultArrays, IsGameOfArrays, AreResults, choice_from}
+use Rattle.pgboard_c.specs.declared.arrays.Results.{Results}
+use Rattle.pgboard_c.specs.Arrays.{GameLists, ResultLists, IsGameOfArrays, AreResults, choice_from, result_lists, IsSameStruct, AreUnchanged}
 use Rattle.pgboard_c.specs.Answers.{HaveSize, AreUnfitResults, IsArraysFault, IsUnfitSolution}
 
 -- the number for an unknown winner
@@ -34,7 +35,7 @@ abbrev pub IsBadKnownWinner : List ℕ → ℕ → Type 0
 IsBadKnownWinner winners v = (v < length winners) × (1 < slice_index winners v) × (slice_index winners v ≢ no_winner)
 
 -- the struct fits the game, and each winner is a player or unknown
-abbrev pub FitsAsKnown : Graph → ResultArrays → Type 0
+abbrev pub FitsAsKnown : Graph → ResultLists → Type 0
 FitsAsKnown g k = HaveSize g k × NoneHas (IsBadKnownWinner k.winners)
 
 abbrev pub HasRightChoice : Graph → KnownRows → ℕ → Type 0
@@ -61,13 +62,13 @@ IsRefusedKnown g known (fault.Known (known_fault.Leaves v w)) =
 IsRefusedKnown g known other = ⊥
 
 -- the same as AreSolved, each player's known set is a region of his, and he keeps its vertices and the choices at those that he owns
-abbrev pub AreSolvedFrom : GameArrays → ResultArrays → ResultArrays → Type 0
+abbrev pub AreSolvedFrom : GameLists → ResultLists → ResultLists → Type 0
 AreSolvedFrom a k r =
     (g : Graph) × (known : KnownRows) × (rows : SolutionRows) × IsGameOfArrays a g × FitsAsKnown g k × AreKnown k.winners k.choices known
     × ((p : Player) → IsKnownRegion g known p) × KeepsKnown g known (λ v. slice_get rows v) × HaveSize g r × AreResults r.winners r.choices rows × IsExactSolution g rows
 
 -- why solving from what is known has no result: the game comes first, then what is known as arrays, then the results, then what it means
-abbrev pub IsSolveFromFault : GameArrays → ResultArrays → ResultArrays → Fault → Type 0
+abbrev pub IsSolveFromFault : GameLists → ResultLists → ResultLists → Fault → Type 0
 IsSolveFromFault a k r (fault.Size structure.Solution) = (g : Graph) × IsGameOfArrays a g × IsUnfitSolution g k (fault.Size structure.Solution)
 IsSolveFromFault a k r (fault.Solution name) = (g : Graph) × IsGameOfArrays a g × IsUnfitSolution g k (fault.Solution name)
 IsSolveFromFault a k r (fault.Winner v) = (g : Graph) × IsGameOfArrays a g × HaveSize g k × IsLeast (IsBadKnownWinner k.winners) v
@@ -78,3 +79,7 @@ IsSolveFromFault a k r (fault.Known f) =
     (g : Graph) × (known : KnownRows) × IsGameOfArrays a g × FitsAsKnown g k × AreKnown k.winners k.choices known × HaveSize g r
     × IsRefusedKnown g known (fault.Known f)
 IsSolveFromFault a k r other = IsArraysFault a other
+
+abbrev pub IsSolveFromOutcome : GameLists → ResultLists → Results → Results → Result (Unit {0}) Fault → Type 0
+IsSolveFromOutcome a k old new result = MatchResult result
+    (λ _. AreSolvedFrom a k (result_lists new) × IsSameStruct old new) (λ e. IsSolveFromFault a k (result_lists old) e × AreUnchanged old new)

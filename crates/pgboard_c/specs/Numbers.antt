@@ -1,5 +1,5 @@
 -- The number of each answer, and its report: a table with one line for each fault.
-use Rattle.std.specs.Prelude.{ℕ, ◌≡◌}
+use Rattle.std.specs.Prelude.{ℕ, ◌≡◌, ◌<◌, Result, Ok, Err}
 use Rattle.pg_game.specs.declared.specification.GameFault.{GameFault}
 use Rattle.pg_game.specs.declared.specification.GameFault.TheVariants as game
 use Rattle.pg_dominion.specs.declared.solution.SolutionFault.{SolutionFault}
@@ -135,3 +135,12 @@ IsReported fault number report = answer_of fault ≡ answer number report.at rep
 -- the report is blank
 abbrev pub IsBlank : Report → Type 0
 IsBlank report = (report.at ≡ 0) × (report.to ≡ 0)
+
+-- 0 and a blank report, or the fault's number and places
+abbrev pub IsAnswerTo : Result (Unit {0}) Fault → ℕ → Report → Type 0
+IsAnswerTo (Ok _) answer report = (answer ≡ 0) × IsBlank report
+IsAnswerTo (Err e) answer report = (0 < answer) × IsReported e answer report
+
+-- the call comes to a result with this outcome, and these are its number, which is 0 exactly where there is no fault, and its report
+abbrev pub Returns : (Result (Unit {0}) Fault → Type 0) → ℕ → Report → Type 0
+Returns Outcome answer report = (result : Result (Unit {0}) Fault) × Outcome result × IsAnswerTo result answer report

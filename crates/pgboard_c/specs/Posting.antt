@@ -1,6 +1,5 @@
 -- A claim in arrays, and the answers of the call that posts it.
-use Rattle.std.specs.Prelude.{ℕ, ◌≡◌, ◌≢◌, ◌<◌, ◌≤◌, ◌⊎◌, ◌++◌, ◌∷◌, [], List, zero, suc, length, slice_index}
-use Rattle.pg_game.specs.declared.player.Player.{Player}
+use Rattle.std.specs.Prelude.{ℕ, ◌≡◌, ◌≢◌, ◌<◌, ◌≤◌, ◌⊎◌, ◌++◌, ◌∷◌, [], List, zero, suc, length, slice_index, Ok, Err}
 use Rattle.pg_text.specs.GameText.{player_of}
 use Rattle.pg_dominion.specs.declared.claim.Claim.{Claim}
 use Rattle.pg_dominion.specs.declared.claim.ClaimFault.TheVariants as claim_fault
@@ -9,10 +8,7 @@ use Rattle.pg_board.specs.declared.journal.Posted.{Posted}
 use Rattle.pg_board.specs.declared.journal.Refusal.{Refusal}
 use Rattle.pg_board.specs.declared.journal.Refusal.TheVariants as refusal
 use Rattle.pg_board.specs.BoardRecord.{BoardRecord}
-use Rattle.pg_board.specs.State.{IsGoodOn, rest_of}
-use Rattle.pg_board.specs.Journal.{state_of, IsDominionAfter}
-use Rattle.pg_board.specs.Refusal.{Refuses}
-use Rattle.pg_board.specs.Post.{Adds, SettlesDominion}
+use Rattle.pg_board.specs.Post.{IsPostAnswer}
 use Rattle.pgboard_c.specs.declared.claims.ClaimArrays.{ClaimArrays}
 use Rattle.pgboard_c.specs.declared.board.PostedNumbers.{PostedNumbers}
 use Rattle.pgboard_c.specs.declared.fault.Structure.TheVariants as structure
@@ -21,6 +17,7 @@ use Rattle.pgboard_c.specs.declared.fault.Fault.{Fault}
 use Rattle.pgboard_c.specs.declared.fault.Fault.TheVariants as fault
 use Rattle.pgboard_c.specs.Numbers.{structure_size}
 use Rattle.pgboard_c.specs.Arrays.{choice_from}
+use Rattle.pgboard_c.specs.Board.{SessionOutcome, IsBoardOutcome}
 
 -- a claim in arrays; the size is the one in the struct
 pub record ClaimLists : Type 0 where
@@ -67,35 +64,25 @@ refusal_fault refusal.Stale = fault.Post post_fault.Stale
 refusal_fault (refusal.Open v w) = fault.Post (post_fault.Open v w)
 refusal_fault refusal.Memory = fault.Memory
 
--- the claim is good, and the board has one more entry, with the numbers that are reported. If it was a dominion after some entries, all that
--- was unsettled of it is settled
+-- the board's answer to the claim of the arrays is a post, of which the numbers are reported
 pub record IsPosted (old new : BoardRecord) (c : ClaimLists) (n : PostedNumbers) : Type 0 where
   pub claim : IsClaim c
-  pub graph : new.graph ≡ old.graph
-  pub good : IsGoodOn old.graph (state_of old.journal) (player_of c.player) (claim_of_lists c).rows
   pub posted : Posted
-  pub adds : Adds old new c.worker (claim_of_lists c) posted
+  pub answer : IsPostAnswer old new c.worker (claim_of_lists c) (Ok posted)
   pub entry : n.entry ≡ posted.entry
-  pub rest : n.rest ≡ posted.claimed
+  pub claimed : n.claimed ≡ posted.claimed
   pub settled : n.settled ≡ posted.settled
-  pub old_copies : (k : ℕ) → IsDominionAfter old.graph old.journal k (player_of c.player) (claim_of_lists c).rows
-      → (n.rest ≡ length (rest_of (state_of old.journal) (claim_of_lists c).rows)) × SettlesDominion old new (player_of c.player) (claim_of_lists c).rows
 
--- why a claim that was a dominion is not posted: nothing of it is unsettled, or memory was refused
-abbrev pub IsFaultOfDominion : BoardRecord → Player → ClaimRows → Fault → Type 0
-IsFaultOfDominion s p rows (fault.Post post_fault.Stale) = (rest_of (state_of s.journal) rows ≡ []) × SettlesDominion s s p rows
-IsFaultOfDominion s p rows fault.Memory = Unit {0}
-IsFaultOfDominion s p rows other = ⊥
-
--- the board refuses the claim, and the fault says why
+-- the board's answer to the claim of the arrays is a refusal, and the fault says why
 pub record IsRefused (s : BoardRecord) (c : ClaimLists) (e : Fault) : Type 0 where
   pub claim : IsClaim c
   pub refusal : Refusal
-  pub refused : Refuses s.graph (state_of s.journal) (player_of c.player) (claim_of_lists c).rows refusal
+  pub answer : IsPostAnswer s s c.worker (claim_of_lists c) (Err refusal)
   pub fault_is : e ≡ refusal_fault refusal
-  pub old_copies : (k : ℕ) → IsDominionAfter s.graph s.journal k (player_of c.player) (claim_of_lists c).rows
-      → IsFaultOfDominion s (player_of c.player) (claim_of_lists c).rows e
 
 -- why a claim is not posted: the first of the reasons that apply
 abbrev pub IsPostFault : BoardRecord → ClaimLists → Fault → Type 0
 IsPostFault s c e = IsNoClaim c e ⊎ IsRefused s c e
+
+abbrev pub IsPostOutcome : ClaimLists → PostedNumbers → PostedNumbers → SessionOutcome
+IsPostOutcome c old_posted posted = IsBoardOutcome (λ s t. IsPosted s.board t.board c posted) (λ s. IsPostFault s c) (posted ≡ old_posted)

@@ -1,5 +1,5 @@
 -- The answers of the calls on texts, and their refusals.
-use Rattle.std.specs.Prelude.{ℕ, ◌≡◌, ◌<◌, ◌≤◌, ◌++◌, List, length, drop}
+use Rattle.std.specs.Prelude.{ℕ, ◌≡◌, ◌<◌, ◌≤◌, ◌++◌, List, length, drop, Result, MatchResult}
 use Rattle.pg_game.specs.Graph.{Graph}
 use Rattle.pg_text.specs.Solution.{SolutionRows, IsSolution, IsExactSolution}
 use Rattle.pg_text.specs.Reading.{max_text, IsTextOf, IsFaultOf, IsSolutionTextOf, IsSolutionFaultOf}
@@ -32,6 +32,11 @@ abbrev pub IsTextFault : (List ℕ → List ℕ → Type 0) → List ℕ → ℕ
 IsTextFault Is text capacity (fault.Capacity size) = (answer : List ℕ) × Is text answer × (size ≡ length answer) × (capacity < size)
 IsTextFault Is text capacity other = IsRefusedGameText text other
 
+-- the text's answer of the kind is at the front of the buffer, and its size is reported; or there is none, and both are unchanged
+abbrev pub IsTextOutcome : (List ℕ → List ℕ → Type 0) → List ℕ → List ℕ → List ℕ → ℕ → ℕ → Result (Unit {0}) Fault → Type 0
+IsTextOutcome Is text old new old_size size result = MatchResult result
+    (λ _. (answer : List ℕ) × Is text answer × IsWritten old new size answer) (λ e. IsTextFault Is text (length old) e × (new ≡ old) × (size ≡ old_size))
+
 -- the texts spell a game and a solution of it
 abbrev pub AreVerified : List ℕ → List ℕ → Type 0
 AreVerified game solution = (g : Graph) × (rows : SolutionRows) × IsTextOf game g × IsSolutionTextOf g solution rows × IsSolution g rows
@@ -42,3 +47,6 @@ IsVerifyFault game solution fault.SolutionTooLong = (g : Graph) × IsTextOf game
 IsVerifyFault game solution (fault.SolutionText f) = (g : Graph) × IsTextOf game g × (length solution ≤ max_text) × IsSolutionFaultOf g solution f
 IsVerifyFault game solution (fault.Verdict f) = (g : Graph) × (rows : SolutionRows) × IsTextOf game g × IsSolutionTextOf g solution rows × FailsBy g rows f
 IsVerifyFault game solution other = IsRefusedGameText game other
+
+abbrev pub IsVerifyOutcome : List ℕ → List ℕ → Result (Unit {0}) Fault → Type 0
+IsVerifyOutcome game solution result = MatchResult result (λ _. AreVerified game solution) (IsVerifyFault game solution)

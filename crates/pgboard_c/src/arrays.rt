@@ -2,7 +2,7 @@
 //! rows. A vertex is its place, from 0 on, and winners and choices have an entry for each vertex.
 
 ghost use Rattle.std.specs.Prelude.{◌≡◌, OnOk, IfErr, ◌<◌, ◌≤◌, length, IfOk, MatchOption, All, ℕ, IfSome};
-ghost use Rattle.pgboard_c.specs.Arrays.{game_arrays, result_arrays, solution_arrays, array_specs, no_choice, choice_from, choice_number};
+ghost use Rattle.pgboard_c.specs.Arrays.{game_lists, result_lists, solution_lists, array_specs, no_choice, choice_from, choice_number};
 ghost use Rattle.pgboard_c.specs.Arrays.{HaveLengths, IsBadRow, IsBadOwner, IsBadPriority, AreWellFormed, IsGameOfArrays, AreResults, IsBadWinner};
 ghost use Rattle.pgboard_c.specs.Answers.{IsArraysFault, HaveSize, AreUnfitResults, IsUnfitSolution};
 ghost use Rattle.pg_game.specs.Specification.{AreNumbers};
@@ -19,7 +19,7 @@ use std::alloc::Global;
 /// Owners, priorities, and the targets of all edges in rows: vertex `v` has those from `starts[v]` on, before
 /// `starts[v + 1]`. The size is that of this struct, so that a later version knows its fields.
 #[repr(C)]
-pub struct Arrays<'a> {
+pub struct GameArrays<'a> {
     pub size: usize,
     pub owners: &'a [u8],
     pub priorities: &'a [u32],
@@ -43,14 +43,14 @@ pub struct SolutionArrays<'a> {
     pub choices: &'a [u32],
 }
 
-impl<'a> Arrays<'a> {
+impl<'a> GameArrays<'a> {
     /// The game of the arrays, without predecessors.
     pub fn forward_game(&self, alloc: Global) -> Result<ForwardGame, Fault>
-        ensures game { IfOk result (λ g. IsGameOfArrays (game_arrays self.now) g) }
-        ensures fault { IfErr result (λ e. IsArraysFault (game_arrays self.now) e) }
+        ensures game { IfOk result (λ g. IsGameOfArrays (game_lists self.now) g) }
+        ensures fault { IfErr result (λ e. IsArraysFault (game_lists self.now) e) }
     {
         let specs = self.specs(alloc)?;
-        match ForwardGame::from_rows(alloc, specs) {
+        match ForwardGame::from_builder(alloc, specs) {
             Ok(game) => Ok(game),
             Err(GameFault::Memory) => Err(Fault::Memory),
             Err(fault) => Err(Fault::Game(fault)),
@@ -59,10 +59,10 @@ impl<'a> Arrays<'a> {
 
     /// The vertices of the arrays, if these make a game, whatever the edges.
     fn specs(&self, alloc: Global) -> Result<GameBuilder, Fault>
-        ensures formed { OnOk result (AreWellFormed (game_arrays self.now)) }
-        ensures specs { IfOk result (λ specs. specs ≡ array_specs (game_arrays self.now)) }
+        ensures formed { OnOk result (AreWellFormed (game_lists self.now)) }
+        ensures specs { IfOk result (λ specs. specs ≡ array_specs (game_lists self.now)) }
         ensures numbers { IfOk result (λ specs. All AreNumbers specs) }
-        ensures fault { IfErr result (λ e. IsArraysFault (game_arrays self.now) e) }
+        ensures fault { IfErr result (λ e. IsArraysFault (game_lists self.now) e) }
     {
         self.check()?;
         let n = self.owners.len();
@@ -79,8 +79,8 @@ impl<'a> Arrays<'a> {
 
     /// The first reason why the arrays are no game, whatever the edges.
     fn check(&self) -> Result<(), Fault>
-        ensures formed { OnOk result (AreWellFormed (game_arrays self.now)) }
-        ensures fault { IfErr result (λ e. IsArraysFault (game_arrays self.now) e) }
+        ensures formed { OnOk result (AreWellFormed (game_lists self.now)) }
+        ensures fault { IfErr result (λ e. IsArraysFault (game_lists self.now) e) }
     {
         self.check_lengths()?;
         let fitting = FittingArrays { arrays: self };
@@ -98,8 +98,8 @@ impl<'a> Arrays<'a> {
 
     /// Whether the struct has its size, and the arrays fit one another.
     fn check_lengths(&self) -> Result<(), Fault>
-        ensures fit { OnOk result (HaveLengths (game_arrays self.now)) }
-        ensures fault { IfErr result (λ e. IsArraysFault (game_arrays self.now) e) }
+        ensures fit { OnOk result (HaveLengths (game_lists self.now)) }
+        ensures fault { IfErr result (λ e. IsArraysFault (game_lists self.now) e) }
     {
         if self.size != Structure::Game.size() {
             return Err(Fault::Size(Structure::Game));
@@ -119,7 +119,7 @@ impl<'a> Arrays<'a> {
 
     /// The first vertex whose owner is neither 0 nor 1.
     fn first_bad_owner(&self) -> Option<usize>
-        ensures { MatchOption result (NoneHas (IsBadOwner (game_arrays self.now))) (IsLeast (IsBadOwner (game_arrays self.now))) }
+        ensures { MatchOption result (NoneHas (IsBadOwner (game_lists self.now))) (IsLeast (IsBadOwner (game_lists self.now))) }
     {
         for v in 0..self.owners.len() {
             if self.owners[v] > 1 {
@@ -133,15 +133,15 @@ impl<'a> Arrays<'a> {
 /// The arrays of a game, which fit one another.
 #[derive(Clone, Copy)]
 struct FittingArrays<'a> {
-    arrays: &'a Arrays<'a>,
-    ghost lengths: { HaveLengths (game_arrays arrays.now) },
+    arrays: &'a GameArrays<'a>,
+    ghost lengths: { HaveLengths (game_lists arrays.now) },
 }
 
 impl<'a> FittingArrays<'a> {
     /// The first vertex whose row is no part of the targets.
     fn first_bad_row(&self) -> Option<usize>
-        ensures { MatchOption result (NoneHas (IsBadRow (game_arrays self.now.arrays.now)))
-            (IsLeast (IsBadRow (game_arrays self.now.arrays.now))) }
+        ensures { MatchOption result (NoneHas (IsBadRow (game_lists self.now.arrays.now)))
+            (IsLeast (IsBadRow (game_lists self.now.arrays.now))) }
     {
         for v in 0..self.arrays.owners.len() {
             let from = self.arrays.starts[v];
@@ -155,8 +155,8 @@ impl<'a> FittingArrays<'a> {
 
     /// The first vertex whose priority is too large.
     fn first_bad_priority(&self) -> Option<usize>
-        ensures { MatchOption result (NoneHas (IsBadPriority (game_arrays self.now.arrays.now)))
-            (IsLeast (IsBadPriority (game_arrays self.now.arrays.now))) }
+        ensures { MatchOption result (NoneHas (IsBadPriority (game_lists self.now.arrays.now)))
+            (IsLeast (IsBadPriority (game_lists self.now.arrays.now))) }
     {
         for v in 0..self.arrays.owners.len() {
             if self.arrays.priorities[v] > MAX_NUMBER {
@@ -170,9 +170,9 @@ impl<'a> FittingArrays<'a> {
 impl<'a> Results<'a> {
     /// Whether the struct has its size, and the arrays an entry for each vertex of the game.
     pub fn check_lengths(&self, game: &ForwardGame) -> Result<(), Fault>
-        ensures fit { OnOk result (HaveSize game.now (result_arrays self.now)) }
+        ensures fit { OnOk result (HaveSize game.now (result_lists self.now)) }
         ensures few { OnOk result (length game.now ≤ no_choice) }
-        ensures fault { IfErr result (λ e. AreUnfitResults game.now (result_arrays self.now) e) }
+        ensures fault { IfErr result (λ e. AreUnfitResults game.now (result_lists self.now) e) }
     {
         let n = game.len() as usize;
         if self.size != Structure::Results.size() {
@@ -191,8 +191,8 @@ impl<'a> Results<'a> {
 impl<'a> SolutionArrays<'a> {
     /// Whether the struct has its size, and the arrays an entry for each vertex of the game.
     pub fn check_lengths(&self, game: &ForwardGame) -> Result<(), Fault>
-        ensures fit { OnOk result (HaveSize game.now (solution_arrays self.now)) }
-        ensures fault { IfErr result (λ e. IsUnfitSolution game.now (solution_arrays self.now) e) }
+        ensures fit { OnOk result (HaveSize game.now (solution_lists self.now)) }
+        ensures fault { IfErr result (λ e. IsUnfitSolution game.now (solution_lists self.now) e) }
     {
         let n = game.len() as usize;
         if self.size != Structure::Solution.size() {

@@ -1,20 +1,16 @@
 //! The exports on a board that a C program holds: each is the call of a session, through the handle. After any answer but 0 the
 //! board is unchanged, except by `pgboard_board_advance`, and the call writes only `report`.
 
-ghost use Rattle.std.specs.Prelude.{◌≡◌, ◌≢◌, ◌<◌, ◌≤◌, ℕ, Option, None, Some, [], IfOk, IfErr, OnOk, OnErr, length, slice_index};
-ghost use Rattle.pg_board.specs.BoardRecord.{BoardRecord};
-ghost use Rattle.pg_board.specs.Journal.{state_of};
-ghost use Rattle.pgboard_c.specs.declared.fault.Fault.{Fault};
-ghost use Rattle.pgboard_c.specs.Numbers.{IsReported, IsBlank};
-ghost use Rattle.pgboard_c.specs.Arrays.{game_arrays, result_arrays, IsSameStruct};
-ghost use Rattle.pgboard_c.specs.Board.{board_in, IsLawfulRecord, IsLawfulBoard, OnBoard, IsOpened, IsOpenFault, AreStates, IsStateFault};
-ghost use Rattle.pgboard_c.specs.Board.{IsFinished, IsFinishFault, IsContinuedOn, IsAdvanceFault};
-ghost use Rattle.pg_board.specs.Full.{IsFull};
-ghost use Rattle.pgboard_c.specs.Board.{AreSolution, IsSolutionFault, number_settled_on, number_of_entries, winner_number, chosen_number};
-ghost use Rattle.pgboard_c.specs.Entries.{IsEntry, IsEntryFault};
-ghost use Rattle.pgboard_c.specs.Posting.{claim_lists, IsPosted, IsPostFault};
+ghost use Rattle.std.specs.Prelude.{◌≡◌, ◌≤◌, None, Some, [], IfOk, length};
+ghost use Rattle.pgboard_c.specs.Numbers.{Returns};
+ghost use Rattle.pgboard_c.specs.Arrays.{game_lists, IsGameOfArrays};
+ghost use Rattle.pgboard_c.specs.Answers.{IsArraysFault};
+ghost use Rattle.pgboard_c.specs.Board.{session_in, number_settled_on, number_of_entries, winner_number, chosen_number, AreStates};
+ghost use Rattle.pgboard_c.specs.Board.{OnHandle, IsOpenOutcome, IsStateOutcome, IsFinishOutcome, IsAdvanceOutcome, IsSolutionOutcome};
+ghost use Rattle.pgboard_c.specs.Entries.{entry_lists, AreEntryRows, IsEntryOutcome};
+ghost use Rattle.pgboard_c.specs.Posting.{claim_lists, IsPostOutcome};
 
-use crate::arrays::{Arrays, Results, number_of, write_results};
+use crate::arrays::{GameArrays, Results, number_of, write_results};
 use crate::claims::{ClaimArrays, fault_of};
 use crate::fault::{BoardFault, Fault, Report, reported};
 use crate::held::Handle;
@@ -28,17 +24,12 @@ use std::alloc::Global;
 pub extern "C" fn pgboard_board_open(
     alloc: Global,
     board: &mut Handle,
-    game: &Arrays,
+    game: &GameArrays,
     report: &mut Report,
 ) -> u32
-    ensures opened { result ≡ 0 → IsOpened (game_arrays game.now) (board_in board.new) }
-    ensures lawful { result ≡ 0 → IsLawfulBoard (board_in board.new) }
-    ensures closed { result ≡ 0 → board_in board.old ≡ None }
-    ensures blank { result ≡ 0 → IsBlank report.new }
-    ensures refused { result ≢ 0 → (e : Fault) × IsReported e result report.new × IsOpenFault (board_in board.old) (game_arrays game.now) e }
-    ensures unchanged { result ≢ 0 → board_in board.new ≡ board_in board.old }
+    ensures { Returns (IsOpenOutcome (IsGameOfArrays (game_lists game.now)) (IsArraysFault (game_lists game.now)) board.old board.new) result report.new }
 {
-    reported!(report, open(alloc, board, game))
+    reported(report, open(alloc, board, game))
 }
 
 /// Posts a claim: if it is good on the board's present state, the board gains one entry. Else the answer is the first reason.
@@ -50,15 +41,9 @@ pub extern "C" fn pgboard_board_post(
     posted: &mut PostedNumbers,
     report: &mut Report,
 ) -> u32
-    ensures posted { result ≡ 0 → (s : BoardRecord) × (t : BoardRecord) × (board_in board.old ≡ Some s) × (board_in board.new ≡ Some t)
-        × IsPosted s t (claim_lists claim.now) posted.new }
-    ensures blank { result ≡ 0 → IsBlank report.new }
-    ensures refused { result ≢ 0 → (e : Fault) × IsReported e result report.new × OnBoard (board_in board.old) (λ s. IsPostFault s (claim_lists claim.now)) e }
-    ensures lawful { IsLawfulBoard (board_in board.old) × IsLawfulBoard (board_in board.new) }
-    ensures unchanged { result ≢ 0 → board_in board.new ≡ board_in board.old }
-    ensures kept { result ≢ 0 → posted.new ≡ posted.old }
+    ensures { Returns (OnHandle (IsPostOutcome (claim_lists claim.now) posted.old posted.new) board.old board.new) result report.new }
 {
-    reported!(report, post(alloc, board, claim), numbers => *posted = numbers)
+    reported(report, post(alloc, board, claim, posted))
 }
 
 /// Writes the winner and the choice of each settled vertex, and of the others that they have none.
@@ -69,23 +54,16 @@ pub extern "C" fn pgboard_board_state(
     results: &mut Results,
     report: &mut Report,
 ) -> u32
-    ensures written { result ≡ 0 → (s : BoardRecord) × (board_in board.old ≡ Some s) × AreStates s (result_arrays results.new) }
-    ensures blank { result ≡ 0 → IsBlank report.new }
-    ensures refused { result ≢ 0 → (e : Fault) × IsReported e result report.new
-        × OnBoard (board_in board.old) (λ s. IsStateFault s (result_arrays results.old)) e }
-    ensures lawful { IsLawfulBoard (board_in board.old) }
-    ensures unchanged { board_in board.new ≡ board_in board.old }
-    ensures kept { result ≢ 0 → result_arrays results.new ≡ result_arrays results.old }
-    ensures struct_kept { IsSameStruct results.old results.new }
+    ensures { Returns (OnHandle (IsStateOutcome results.old results.new) board.old board.new) result report.new }
 {
-    reported!(report, state(alloc, board, results))
+    reported(report, state(alloc, board, results))
 }
 
 /// The number of settled vertices; 0 of a closed board.
 #[unsafe(no_mangle)]
 pub extern "C" fn pgboard_board_settled(alloc: Global, board: &mut Handle) -> u64
-    ensures number { result ≡ number_settled_on (board_in board.old) }
-    ensures unchanged { board_in board.new ≡ board_in board.old }
+    ensures number { result ≡ number_settled_on (session_in board.old) }
+    ensures unchanged { session_in board.new ≡ session_in board.old }
 {
     let Ok(session) = board.take(alloc) else {
         return 0;
@@ -98,8 +76,8 @@ pub extern "C" fn pgboard_board_settled(alloc: Global, board: &mut Handle) -> u6
 /// The number of journal entries; 0 of a closed board.
 #[unsafe(no_mangle)]
 pub extern "C" fn pgboard_board_entries(alloc: Global, board: &mut Handle) -> u64
-    ensures number { result ≡ number_of_entries (board_in board.old) }
-    ensures unchanged { board_in board.new ≡ board_in board.old }
+    ensures number { result ≡ number_of_entries (session_in board.old) }
+    ensures unchanged { session_in board.new ≡ session_in board.old }
 {
     let Ok(session) = board.take(alloc) else {
         return 0;
@@ -120,18 +98,13 @@ pub extern "C" fn pgboard_board_entry(
     choices: &mut [u32],
     report: &mut Report,
 ) -> u32
-    ensures found { result ≡ 0 → (s : BoardRecord) × (board_in board.old ≡ Some s)
-        × IsEntry s number entry.new vertices.old choices.old vertices.new choices.new }
-    ensures blank { result ≡ 0 → IsBlank report.new }
-    ensures refused { result ≢ 0 → (e : Fault) × IsReported e result report.new
-        × OnBoard (board_in board.old) (λ s. IsEntryFault s number (length vertices.old) (length choices.old)) e }
-    ensures lawful { IsLawfulBoard (board_in board.old) }
-    ensures unchanged { board_in board.new ≡ board_in board.old }
-    ensures kept { result ≢ 0 → entry.new ≡ entry.old }
-    ensures vertices_kept { result ≢ 0 → vertices.new ≡ vertices.old }
-    ensures choices_kept { result ≢ 0 → choices.new ≡ choices.old }
+    ensures { Returns (OnHandle (IsEntryOutcome number (entry_lists entry.old vertices.old choices.old) (entry_lists entry.new vertices.new choices.new))
+        board.old board.new) result report.new }
 {
-    reported!(report, read_entry(alloc, board, number, vertices, choices), numbers => *entry = numbers)
+    reported(
+        report,
+        read_entry(alloc, board, number, entry, vertices, choices),
+    )
 }
 
 /// Settles all vertices that are left, as worker 0: by the searches of [`pgboard_solve`](crate::on_arrays::pgboard_solve), and then by the recursion.
@@ -141,13 +114,9 @@ pub extern "C" fn pgboard_board_finish(
     board: &mut Handle,
     report: &mut Report,
 ) -> u32
-    ensures finished { result ≡ 0 → (s : BoardRecord) × (t : BoardRecord) × (board_in board.old ≡ Some s) × (board_in board.new ≡ Some t) × IsFinished s t }
-    ensures blank { result ≡ 0 → IsBlank report.new }
-    ensures refused { result ≢ 0 → (e : Fault) × IsReported e result report.new × OnBoard (board_in board.old) (IsFinishFault None) e }
-    ensures lawful { IsLawfulBoard (board_in board.old) × IsLawfulBoard (board_in board.new) }
-    ensures unchanged { result ≢ 0 → board_in board.new ≡ board_in board.old }
+    ensures { Returns (OnHandle (IsFinishOutcome None) board.old board.new) result report.new }
 {
-    reported!(report, finish(alloc, board, None))
+    reported(report, finish(alloc, board, None))
 }
 
 /// The same as [`pgboard_board_finish`], unless the recursion needs more steps than these. A step begins a subgame. If the call
@@ -159,18 +128,15 @@ pub extern "C" fn pgboard_board_finish_within(
     steps: u64,
     report: &mut Report,
 ) -> u32
-    ensures finished { result ≡ 0 → (s : BoardRecord) × (t : BoardRecord) × (board_in board.old ≡ Some s) × (board_in board.new ≡ Some t) × IsFinished s t }
-    ensures blank { result ≡ 0 → IsBlank report.new }
-    ensures refused { result ≢ 0 → (e : Fault) × IsReported e result report.new × OnBoard (board_in board.old) (IsFinishFault (Some steps)) e }
-    ensures lawful { IsLawfulBoard (board_in board.old) × IsLawfulBoard (board_in board.new) }
-    ensures unchanged { result ≢ 0 → board_in board.new ≡ board_in board.old }
+    ensures { Returns (OnHandle (IsFinishOutcome (Some steps)) board.old board.new) result report.new }
 {
-    reported!(report, finish(alloc, board, Some(steps)))
+    reported(report, finish(alloc, board, Some(steps)))
 }
 
 /// Settles more of what is left, as worker 0: one search of [`pgboard_board_finish`], or after the last search up to so many steps of
 /// the recursion. Leaves how many steps are left. The answer is 0 once all is settled, and that of [`Fault::GaveUp`] before. What it
-/// has settled stays, whatever the answer. Called again it goes on where it was; a post in between has it begin anew.
+/// has settled stays, whatever the answer. Called again it goes on where it was; an accepted post in between has it begin anew. While
+/// it answers that it gave up, each call with a step to take leaves fewer slices.
 #[unsafe(no_mangle)]
 pub extern "C" fn pgboard_board_advance(
     alloc: Global,
@@ -178,14 +144,9 @@ pub extern "C" fn pgboard_board_advance(
     steps: &mut u64,
     report: &mut Report,
 ) -> u32
-    ensures continued { IsContinuedOn (board_in board.old) (board_in board.new) }
-    ensures full { result ≡ 0 → (s : BoardRecord) × (board_in board.new ≡ Some s) × IsFull s.graph (state_of s.journal) }
-    ensures blank { result ≡ 0 → IsBlank report.new }
-    ensures refused { result ≢ 0 → (e : Fault) × IsReported e result report.new × OnBoard (board_in board.new) IsAdvanceFault e }
-    ensures lawful { IsLawfulBoard (board_in board.old) × IsLawfulBoard (board_in board.new) }
-    ensures steps { steps.new ≤ steps.old }
+    ensures { Returns (OnHandle (IsAdvanceOutcome steps.old steps.new) board.old board.new) result report.new }
 {
-    reported!(report, advance(alloc, board, steps))
+    reported(report, advance(alloc, board, steps))
 }
 
 /// Writes the solution of a full board: each vertex's winner, and his choice if he owns the vertex.
@@ -196,22 +157,15 @@ pub extern "C" fn pgboard_board_solution(
     results: &mut Results,
     report: &mut Report,
 ) -> u32
-    ensures solved { result ≡ 0 → (s : BoardRecord) × (board_in board.old ≡ Some s) × AreSolution s (result_arrays results.new) }
-    ensures blank { result ≡ 0 → IsBlank report.new }
-    ensures refused { result ≢ 0 → (e : Fault) × IsReported e result report.new
-        × OnBoard (board_in board.old) (λ s. IsSolutionFault s (result_arrays results.old)) e }
-    ensures lawful { IsLawfulBoard (board_in board.old) }
-    ensures unchanged { board_in board.new ≡ board_in board.old }
-    ensures kept { result ≢ 0 → result_arrays results.new ≡ result_arrays results.old }
-    ensures struct_kept { IsSameStruct results.old results.new }
+    ensures { Returns (OnHandle (IsSolutionOutcome results.old results.new) board.old board.new) result report.new }
 {
-    reported!(report, solution(alloc, board, results))
+    reported(report, solution(alloc, board, results))
 }
 
 /// Frees the board, if it is open.
 #[unsafe(no_mangle)]
 pub extern "C" fn pgboard_board_close(alloc: Global, board: &mut Handle)
-    ensures { board_in board.new ≡ None }
+    ensures { session_in board.new ≡ None }
 {
     *board = Handle::closed(alloc);
 }
@@ -222,7 +176,7 @@ pub extern "C" fn pgboard_board_close(alloc: Global, board: &mut Handle)
 #[derive(Clone, Copy)]
 pub struct PostedNumbers {
     pub entry: u64,
-    pub rest: u64,
+    pub claimed: u64,
     pub settled: u64,
 }
 
@@ -237,12 +191,8 @@ pub struct EntryNumbers {
 }
 
 /// Opens a board of the game of the arrays in a closed handle.
-fn open(alloc: Global, board: &mut Handle, arrays: &Arrays) -> Result<(), Fault>
-    ensures opened { OnOk result (IsOpened (game_arrays arrays.now) (board_in board.new)) }
-    ensures lawful { OnOk result (IsLawfulBoard (board_in board.new)) }
-    ensures closed { OnOk result (board_in board.old ≡ None) }
-    ensures fault { IfErr result (λ e. IsOpenFault (board_in board.old) (game_arrays arrays.now) e) }
-    ensures unchanged { OnErr result (board_in board.new ≡ board_in board.old) }
+fn open(alloc: Global, board: &mut Handle, arrays: &GameArrays) -> Result<(), Fault>
+    ensures { IsOpenOutcome (IsGameOfArrays (game_lists arrays.now)) (IsArraysFault (game_lists arrays.now)) board.old board.new result }
 {
     if board.is_open() {
         return Err(Fault::Board(BoardFault::Open));
@@ -254,61 +204,53 @@ fn open(alloc: Global, board: &mut Handle, arrays: &Arrays) -> Result<(), Fault>
 
 /// A session of the game, on which nothing is settled. The only error is `Memory`.
 pub(crate) fn session_of(alloc: Global, forward: ForwardGame) -> Result<Box<Session>, Memory>
-    ensures board { IfOk result (λ b. b.value ≡ record { graph = forward; journal = [] }) }
-    ensures lawful { IfOk result (λ b. IsLawfulRecord b.value) }
+    ensures { IfOk result (λ b. b.value.board ≡ record { graph = forward; journal = [] }) }
 {
     let game = Game::of_forward(alloc, forward)?;
-    let session = Session::open(alloc, game)?;
-    // for the proof: the contract of this call states what each session is
-    let _game = session.game();
-    Ok(Box::new(alloc, session)?)
+    Ok(Box::new(alloc, Session::open(alloc, game)?)?)
 }
 
 /// Posts the claim on the board of the handle.
-fn post(alloc: Global, board: &mut Handle, claim: &ClaimArrays) -> Result<PostedNumbers, Fault>
-    ensures posted { IfOk result (λ n. (s : BoardRecord) × (t : BoardRecord) × (board_in board.old ≡ Some s) × (board_in board.new ≡ Some t)
-        × IsPosted s t (claim_lists claim.now) n) }
-    ensures fault { IfErr result (λ e. OnBoard (board_in board.old) (λ s. IsPostFault s (claim_lists claim.now)) e) }
-    ensures lawful { IsLawfulBoard (board_in board.old) × IsLawfulBoard (board_in board.new) }
-    ensures unchanged { OnErr result (board_in board.new ≡ board_in board.old) }
+fn post(
+    alloc: Global,
+    board: &mut Handle,
+    claim: &ClaimArrays,
+    posted: &mut PostedNumbers,
+) -> Result<(), Fault>
+    ensures { OnHandle (IsPostOutcome (claim_lists claim.now) posted.old posted.new) board.old board.new result }
 {
     let mut session = board.take(alloc)?;
-    let answer = post_on(alloc, &mut session, claim);
-    // for the proof: the contract of this call states what each session is
-    let _game = session.game();
+    let answer = post_on(alloc, &mut session, claim, posted);
     *board = Handle::holding(session);
     answer
 }
 
-/// Posts the claim of the arrays on a session, and returns the numbers of the post.
+/// Posts the claim of the arrays on a session, and writes the numbers of the post.
 fn post_on(
     alloc: Global,
     session: &mut Session,
     given: &ClaimArrays,
-) -> Result<PostedNumbers, Fault>
-    ensures posted { IfOk result (λ n. IsPosted session.old session.new (claim_lists given.now) n) }
-    ensures fault { IfErr result (λ e. IsPostFault session.old (claim_lists given.now) e) }
-    ensures unchanged { OnErr result (session.new ≡ session.old) }
+    posted: &mut PostedNumbers,
+) -> Result<(), Fault>
+    ensures { IsPostOutcome (claim_lists given.now) posted.old posted.new (Some session.old) (Some session.new) result }
 {
     let claim = given.claim(alloc)?;
     match session.post(alloc, given.worker, &claim) {
-        Ok(posted) => Ok(PostedNumbers {
-            entry: posted.entry,
-            rest: u64::from(posted.claimed),
-            settled: u64::from(posted.settled),
-        }),
+        Ok(made) => {
+            *posted = PostedNumbers {
+                entry: made.entry,
+                claimed: u64::from(made.claimed),
+                settled: u64::from(made.settled),
+            };
+            Ok(())
+        }
         Err(refusal) => Err(fault_of(refusal)),
     }
 }
 
 /// Writes the state of the board of the handle.
 fn state(alloc: Global, board: &mut Handle, results: &mut Results) -> Result<(), Fault>
-    ensures written { OnOk result ((s : BoardRecord) × (board_in board.old ≡ Some s) × AreStates s (result_arrays results.new)) }
-    ensures fault { IfErr result (λ e. OnBoard (board_in board.old) (λ s. IsStateFault s (result_arrays results.old)) e) }
-    ensures lawful { IsLawfulBoard (board_in board.old) }
-    ensures unchanged { board_in board.new ≡ board_in board.old }
-    ensures kept { OnErr result (result_arrays results.new ≡ result_arrays results.old) }
-    ensures struct_kept { IsSameStruct results.old results.new }
+    ensures { OnHandle (IsStateOutcome results.old results.new) board.old board.new result }
 {
     let session = board.take(alloc)?;
     let answer = write_state(&session, results);
@@ -318,10 +260,7 @@ fn state(alloc: Global, board: &mut Handle, results: &mut Results) -> Result<(),
 
 /// Writes the state of a session, if the arrays for results have its size.
 fn write_state(session: &Session, results: &mut Results) -> Result<(), Fault>
-    ensures written { OnOk result (AreStates session.now (result_arrays results.new)) }
-    ensures fault { IfErr result (λ e. IsStateFault session.now (result_arrays results.old) e) }
-    ensures kept { OnErr result (result_arrays results.new ≡ result_arrays results.old) }
-    ensures struct_kept { IsSameStruct results.old results.new }
+    ensures { IsStateOutcome results.old results.new (Some session.now) (Some session.now) result }
 {
     results.check_lengths(session.game().forward())?;
     write_states(session, results.winners, results.choices);
@@ -330,12 +269,9 @@ fn write_state(session: &Session, results: &mut Results) -> Result<(), Fault>
 
 /// Writes the winner and the choice of each vertex, or that it has none.
 fn write_states(session: &Session, winners: &mut [u8], choices: &mut [u32])
-    requires winners { length winners.old ≡ length session.now.graph }
-    requires choices { length choices.old ≡ length session.now.graph }
-    ensures winners_size { length winners.new ≡ length session.now.graph }
-    ensures choices_size { length choices.new ≡ length session.now.graph }
-    ensures winners_are { (v : ℕ) → v < length session.now.graph → slice_index winners.new v ≡ winner_number (state_of session.now.journal v) }
-    ensures choices_are { (v : ℕ) → v < length session.now.graph → slice_index choices.new v ≡ chosen_number (state_of session.now.journal v) }
+    requires winners { length winners.old ≡ length session.now.board.graph }
+    requires choices { length choices.old ≡ length session.now.board.graph }
+    ensures { AreStates session.now.board winners.new choices.new }
 {
     for v in 0..session.game().len() {
         let (winner, choice) = numbers_of(session.state(v));
@@ -346,8 +282,7 @@ fn write_states(session: &Session, winners: &mut [u8], choices: &mut [u32])
 
 /// The winner and the choice of a vertex as numbers.
 fn numbers_of(state: Option<(Player, Option<u32>)>) -> (u8, u32)
-    ensures winner { result.0 ≡ winner_number state }
-    ensures choice { result.1 ≡ chosen_number state }
+    ensures { result ≡ (winner_number state, chosen_number state) }
 {
     match state {
         Some((winner, choice)) => (winner.digit(), number_of(choice)),
@@ -355,102 +290,89 @@ fn numbers_of(state: Option<(Player, Option<u32>)>) -> (u8, u32)
     }
 }
 
-/// Writes an entry of the board of the handle, and returns its numbers.
+/// Writes an entry of the board of the handle.
 fn read_entry(
     alloc: Global,
     board: &mut Handle,
     number: u64,
+    entry: &mut EntryNumbers,
     vertices: &mut [u32],
     choices: &mut [u32],
-) -> Result<EntryNumbers, Fault>
-    ensures read { IfOk result (λ n. (s : BoardRecord) × (board_in board.old ≡ Some s)
-        × IsEntry s number n vertices.old choices.old vertices.new choices.new) }
-    ensures fault { IfErr result (λ e. OnBoard (board_in board.old) (λ s. IsEntryFault s number (length vertices.old) (length choices.old)) e) }
-    ensures lawful { IsLawfulBoard (board_in board.old) }
-    ensures unchanged { board_in board.new ≡ board_in board.old }
-    ensures vertices_kept { OnErr result (vertices.new ≡ vertices.old) }
-    ensures choices_kept { OnErr result (choices.new ≡ choices.old) }
+) -> Result<(), Fault>
+    ensures { OnHandle (IsEntryOutcome number (entry_lists entry.old vertices.old choices.old) (entry_lists entry.new vertices.new choices.new))
+        board.old board.new result }
 {
     let session = board.take(alloc)?;
-    let answer = write_entry(&session, number, vertices, choices);
+    let answer = write_entry(&session, number, entry, vertices, choices);
     *board = Handle::holding(session);
     answer
 }
 
-/// Writes the rows of an entry of a session to the front of the arrays, and returns its numbers.
+/// Writes the numbers of an entry of a session, and its rows to the front of the arrays.
 fn write_entry(
     session: &Session,
     number: u64,
+    entry: &mut EntryNumbers,
     vertices: &mut [u32],
     choices: &mut [u32],
-) -> Result<EntryNumbers, Fault>
-    ensures read { IfOk result (λ n. IsEntry session.now number n vertices.old choices.old vertices.new choices.new) }
-    ensures fault { IfErr result (λ e. IsEntryFault session.now number (length vertices.old) (length choices.old) e) }
-    ensures vertices_kept { OnErr result (vertices.new ≡ vertices.old) }
-    ensures choices_kept { OnErr result (choices.new ≡ choices.old) }
+) -> Result<(), Fault>
+    ensures { IsEntryOutcome number (entry_lists entry.old vertices.old choices.old) (entry_lists entry.new vertices.new choices.new)
+        (Some session.now) (Some session.now) result }
 {
     let entries = session.entries();
     if number >= entries.len() as u64 {
         return Err(Fault::Board(BoardFault::Entry(entries.len())));
     }
-    let entry = &entries[number as usize];
-    let rows = entry.rows.as_slice();
+    let found = &entries[number as usize];
+    let rows = found.rows.as_slice();
     if vertices.len() < rows.len() || choices.len() < rows.len() {
         return Err(Fault::Capacity(rows.len()));
     }
+    write_rows(rows, vertices, choices);
+    *entry = EntryNumbers {
+        worker: found.worker,
+        player: u32::from(found.player.digit()),
+        claimed: u64::from(found.claimed),
+        rows: rows.len() as u64,
+    };
+    Ok(())
+}
+
+/// Writes the rows of an entry to the front of the arrays.
+fn write_rows(rows: &[(u32, Option<u32>)], vertices: &mut [u32], choices: &mut [u32])
+    requires { (length rows.now ≤ length vertices.old) × (length rows.now ≤ length choices.old) }
+    ensures { AreEntryRows rows.now vertices.old choices.old vertices.new choices.new }
+{
     for i in 0..rows.len() {
         let (v, choice) = rows[i];
         vertices[i] = v;
         choices[i] = number_of(choice);
     }
-    Ok(EntryNumbers {
-        worker: entry.worker,
-        player: u32::from(entry.player.digit()),
-        claimed: u64::from(entry.claimed),
-        rows: rows.len() as u64,
-    })
 }
 
 /// Settles all vertices of the board of the handle that are left, unless there is a limit and the recursion needs more steps.
 fn finish(alloc: Global, board: &mut Handle, limit: Option<u64>) -> Result<(), Fault>
-    ensures finished { OnOk result ((s : BoardRecord) × (t : BoardRecord) × (board_in board.old ≡ Some s) × (board_in board.new ≡ Some t)
-        × IsFinished s t) }
-    ensures fault { IfErr result (λ e. OnBoard (board_in board.old) (IsFinishFault limit) e) }
-    ensures lawful { IsLawfulBoard (board_in board.old) × IsLawfulBoard (board_in board.new) }
-    ensures unchanged { OnErr result (board_in board.new ≡ board_in board.old) }
+    ensures { OnHandle (IsFinishOutcome limit) board.old board.new result }
 {
     let mut session = board.take(alloc)?;
     let answer = session.finish(alloc, limit);
-    // for the proof: the contract of this call states what each session is
-    let _game = session.game();
     *board = Handle::holding(session);
     if answer? { Ok(()) } else { Err(Fault::GaveUp) }
 }
 
 /// Settles more of what is left on the board of the handle.
 fn advance(alloc: Global, board: &mut Handle, steps: &mut u64) -> Result<(), Fault>
-    ensures continued { IsContinuedOn (board_in board.old) (board_in board.new) }
-    ensures full { OnOk result ((s : BoardRecord) × (board_in board.new ≡ Some s) × IsFull s.graph (state_of s.journal)) }
-    ensures fault { IfErr result (λ e. OnBoard (board_in board.new) IsAdvanceFault e) }
-    ensures lawful { IsLawfulBoard (board_in board.old) × IsLawfulBoard (board_in board.new) }
-    ensures steps { steps.new ≤ steps.old }
+    ensures { OnHandle (IsAdvanceOutcome steps.old steps.new) board.old board.new result }
 {
     let mut session = board.take(alloc)?;
     let is_full = session.advance(alloc, steps);
-    // for the proof: the contract of this call states what each session is
-    let _game = session.game();
     *board = Handle::holding(session);
     if is_full? { Ok(()) } else { Err(Fault::GaveUp) }
 }
 
 /// Writes the solution of the board of the handle.
 fn solution(alloc: Global, board: &mut Handle, results: &mut Results) -> Result<(), Fault>
-    ensures solved { OnOk result ((s : BoardRecord) × (board_in board.old ≡ Some s) × AreSolution s (result_arrays results.new)) }
-    ensures fault { IfErr result (λ e. OnBoard (board_in board.old) (λ s. IsSolutionFault s (result_arrays results.old)) e) }
-    ensures lawful { IsLawfulBoard (board_in board.old) }
-    ensures unchanged { board_in board.new ≡ board_in board.old }
-    ensures kept { OnErr result (result_arrays results.new ≡ result_arrays results.old) }
-    ensures struct_kept { IsSameStruct results.old results.new }
+    ensures { OnHandle (IsSolutionOutcome results.old results.new) board.old board.new result }
 {
     let session = board.take(alloc)?;
     let answer = write_solution(alloc, &session, results);
@@ -460,10 +382,7 @@ fn solution(alloc: Global, board: &mut Handle, results: &mut Results) -> Result<
 
 /// Writes the solution of a session, if it is full and the arrays for results have its size.
 fn write_solution(alloc: Global, session: &Session, results: &mut Results) -> Result<(), Fault>
-    ensures solved { OnOk result (AreSolution session.now (result_arrays results.new)) }
-    ensures fault { IfErr result (λ e. IsSolutionFault session.now (result_arrays results.old) e) }
-    ensures kept { OnErr result (result_arrays results.new ≡ result_arrays results.old) }
-    ensures struct_kept { IsSameStruct results.old results.new }
+    ensures { IsSolutionOutcome results.old results.new (Some session.now) (Some session.now) result }
 {
     let game = session.game();
     results.check_lengths(game.forward())?;

@@ -1,7 +1,7 @@
 //! The answers of the exports: why a call has no result, or the fault of winners and choices, with a number and a report for C.
 
 ghost use Rattle.std.specs.Prelude.{◌≡◌, ◌<◌};
-ghost use Rattle.pgboard_c.specs.Numbers.{answer, array_number, structure_number, structure_size, answer_of, IsReported, IsBlank};
+ghost use Rattle.pgboard_c.specs.Numbers.{answer, array_number, structure_number, structure_size, answer_of, IsAnswerTo};
 ghost use Rattle.pgboard_c.specs.Numbers.{game_answer, verdict_answer, known_answer, text_answer, solution_answer, board_answer, post_answer};
 
 use pg_dominion::SolutionFault;
@@ -191,45 +191,22 @@ pub struct Report {
     pub to: u64,
 }
 
-/// Reports the fault, and returns its number.
-pub fn report_fault(report: &mut Report, fault: Fault) -> u32
-    ensures report { IsReported fault result report.new }
-    ensures above { 0 < result }
+/// Reports what a call comes to, and returns its answer: 0, or the number of the fault.
+pub fn reported(report: &mut Report, outcome: Result<(), Fault>) -> u32
+    ensures { IsAnswerTo outcome result report.new }
 {
-    let Answer { number, at, to } = Answer::of(fault);
-    *report = Report { at, to };
-    number
-}
-
-/// Reports that there is no fault, and returns 0.
-pub fn report_none(report: &mut Report) -> u32
-    ensures answer { result ≡ 0 }
-    ensures blank { IsBlank report.new }
-{
-    *report = Report { at: 0, to: 0 };
-    0
-}
-
-/// Reports what a call comes to, and is its answer. What the call gives is written first.
-macro_rules! reported {
-    ($report:ident, $call:expr) => {
-        match $call {
-            Ok(()) => $crate::fault::report_none($report),
-            Err(fault) => $crate::fault::report_fault($report, fault),
+    match outcome {
+        Ok(()) => {
+            *report = Report { at: 0, to: 0 };
+            0
         }
-    };
-    ($report:ident, $call:expr, $value:ident => $written:expr) => {
-        match $call {
-            Ok($value) => {
-                $written;
-                $crate::fault::report_none($report)
-            }
-            Err(fault) => $crate::fault::report_fault($report, fault),
+        Err(fault) => {
+            let Answer { number, at, to } = Answer::of(fault);
+            *report = Report { at, to };
+            number
         }
-    };
+    }
 }
-
-pub(crate) use reported;
 
 /// The report of a fault: the number of the answer, and its two places. A place that the fault does not have is 0.
 #[derive(Clone, Copy)]

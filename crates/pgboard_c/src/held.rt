@@ -5,7 +5,7 @@
 ghost use Rattle.std.specs.Prelude.{◌≡◌, Option, None, Some, IfOk, IfErr, IsSome, is_some, option_map, false};
 ghost use Rattle.std.specs.Box.Ownership.{box_owns};
 ghost use Rattle.pgboard_c.specs.private.Held.{held};
-ghost use Rattle.pg_board.specs.BoardRecord.{BoardRecord};
+ghost use Rattle.pg_board.specs.SessionRecord.{SessionRecord};
 
 use crate::fault::{BoardFault, Fault};
 use pg_board::Session;
@@ -23,11 +23,11 @@ pub struct Handle {
 }
 
 impl Handle {
-    ghost use Rattle.pgboard_c.specs.Board.{board_in, IsLawfulRecord, closed_fault};
+    ghost use Rattle.pgboard_c.specs.Board.{session_in, IsLawfulSession, closed_fault};
 
     /// A handle of no session.
     pub fn closed(alloc: Global) -> Handle
-        ensures { board_in result ≡ None }
+        ensures { session_in result ≡ None }
     {
         Handle {
             held: Held::nothing(alloc),
@@ -37,8 +37,11 @@ impl Handle {
 
     /// A handle that owns the session.
     pub fn holding(session: Box<Session>) -> Handle
-        ensures { board_in result ≡ Some session.value }
+        ensures board { session_in result ≡ Some session.value }
+        ensures lawful { IsLawfulSession (session_in result) }
     {
+        // for the proof: the contract of this call states what each session is
+        let _game = session.game();
         Handle {
             held: Held::of(session),
             live: true,
@@ -47,17 +50,17 @@ impl Handle {
 
     /// Whether the handle owns a session.
     pub fn is_open(&self) -> bool
-        ensures { result ≡ is_some (board_in self.now) }
+        ensures { result ≡ is_some (session_in self.now) }
     {
         self.live
     }
 
     /// Takes the session out, and leaves the handle closed.
     pub fn take(&mut self, alloc: Global) -> Result<Box<Session>, Fault>
-        ensures taken { IfOk result (λ b. board_in self.old ≡ Some b.value) }
-        ensures lawful { IfOk result (λ b. IsLawfulRecord b.value) }
-        ensures closed { IfErr result (λ e. (board_in self.old ≡ None) × (e ≡ closed_fault)) }
-        ensures left { board_in self.new ≡ None }
+        ensures taken { IfOk result (λ b. session_in self.old ≡ Some b.value) }
+        ensures closed { IfErr result (λ e. (session_in self.old ≡ None) × (e ≡ closed_fault)) }
+        ensures lawful { IsLawfulSession (session_in self.old) }
+        ensures left { session_in self.new ≡ None }
     {
         let Some(session) = replace(self, Handle::closed(alloc)).into_session() else {
             return Err(Fault::Board(BoardFault::Closed));
@@ -93,7 +96,7 @@ impl Drop for Handle {
 pub struct Held {
     at: *mut u8,
     alloc: Global,
-    pub ghost value: { Option BoardRecord },
+    pub ghost value: { Option SessionRecord },
 }
 
 impl Model for Held {

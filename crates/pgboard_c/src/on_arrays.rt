@@ -1,14 +1,13 @@
 //! The exports on games, winners and choices in arrays.
 
-ghost use Rattle.std.specs.Prelude.{◌≡◌, ◌≢◌, OnOk, OnErr, IfErr, None, Some};
-ghost use Rattle.pgboard_c.specs.declared.fault.Fault.{Fault};
-ghost use Rattle.pgboard_c.specs.Numbers.{IsReported, IsBlank};
-ghost use Rattle.pgboard_c.specs.Arrays.{game_arrays, result_arrays, solution_arrays, IsSameStruct};
-ghost use Rattle.pgboard_c.specs.Answers.{AreSolved, IsSolveFault, AreSolution, IsCheckFault};
-ghost use Rattle.pgboard_c.specs.Known.{AreSolvedFrom, IsSolveFromFault};
+ghost use Rattle.std.specs.Prelude.{None, Some};
+ghost use Rattle.pgboard_c.specs.Numbers.{Returns};
+ghost use Rattle.pgboard_c.specs.Arrays.{game_lists, solution_lists};
+ghost use Rattle.pgboard_c.specs.Answers.{IsSolveOutcome, IsCheckOutcome};
+ghost use Rattle.pgboard_c.specs.Known.{IsSolveFromOutcome};
 
 use crate::arrays::{
-    Arrays, Results, SolutionArrays, first_bad_winner, read_results, write_results,
+    GameArrays, Results, SolutionArrays, first_bad_winner, read_results, write_results,
 };
 use crate::fault::{Fault, Report, reported};
 use crate::known::{KnownOf, first_bad_known_winner, read_known};
@@ -23,17 +22,13 @@ use std::alloc::Global;
 #[unsafe(no_mangle)]
 pub extern "C" fn pgboard_solve(
     alloc: Global,
-    game: &Arrays,
+    game: &GameArrays,
     results: &mut Results,
     report: &mut Report,
 ) -> u32
-    ensures solved { result ≡ 0 → AreSolved (game_arrays game.now) (result_arrays results.new) }
-    ensures blank { result ≡ 0 → IsBlank report.new }
-    ensures refused { result ≢ 0 → (e : Fault) × IsReported e result report.new × IsSolveFault None (game_arrays game.now) (result_arrays results.old) e }
-    ensures kept { result ≢ 0 → result_arrays results.new ≡ result_arrays results.old }
-    ensures struct_kept { IsSameStruct results.old results.new }
+    ensures { Returns (IsSolveOutcome None (game_lists game.now) results.old results.new) result report.new }
 {
-    reported!(report, solve(alloc, game, None, results))
+    reported(report, solve(alloc, game, None, results))
 }
 
 /// The same as [`pgboard_solve`], unless the recursion needs more steps than these. A step begins a subgame. If the call gives up,
@@ -41,19 +36,14 @@ pub extern "C" fn pgboard_solve(
 #[unsafe(no_mangle)]
 pub extern "C" fn pgboard_solve_within(
     alloc: Global,
-    game: &Arrays,
+    game: &GameArrays,
     steps: u64,
     results: &mut Results,
     report: &mut Report,
 ) -> u32
-    ensures solved { result ≡ 0 → AreSolved (game_arrays game.now) (result_arrays results.new) }
-    ensures blank { result ≡ 0 → IsBlank report.new }
-    ensures refused { result ≢ 0 → (e : Fault) × IsReported e result report.new
-        × IsSolveFault (Some steps) (game_arrays game.now) (result_arrays results.old) e }
-    ensures kept { result ≢ 0 → result_arrays results.new ≡ result_arrays results.old }
-    ensures struct_kept { IsSameStruct results.old results.new }
+    ensures { Returns (IsSolveOutcome (Some steps) (game_lists game.now) results.old results.new) result report.new }
 {
-    reported!(report, solve(alloc, game, Some(steps), results))
+    reported(report, solve(alloc, game, Some(steps), results))
 }
 
 /// The same as [`pgboard_solve`], from known winners and choices of some vertices, which are kept. If they do not hold, the
@@ -61,19 +51,14 @@ pub extern "C" fn pgboard_solve_within(
 #[unsafe(no_mangle)]
 pub extern "C" fn pgboard_solve_known(
     alloc: Global,
-    game: &Arrays,
+    game: &GameArrays,
     known: &SolutionArrays,
     results: &mut Results,
     report: &mut Report,
 ) -> u32
-    ensures solved { result ≡ 0 → AreSolvedFrom (game_arrays game.now) (solution_arrays known.now) (result_arrays results.new) }
-    ensures blank { result ≡ 0 → IsBlank report.new }
-    ensures refused { result ≢ 0 → (e : Fault) × IsReported e result report.new
-        × IsSolveFromFault (game_arrays game.now) (solution_arrays known.now) (result_arrays results.old) e }
-    ensures kept { result ≢ 0 → result_arrays results.new ≡ result_arrays results.old }
-    ensures struct_kept { IsSameStruct results.old results.new }
+    ensures { Returns (IsSolveFromOutcome (game_lists game.now) (solution_lists known.now) results.old results.new) result report.new }
 {
-    reported!(report, solve_known(alloc, game, known, results))
+    reported(report, solve_known(alloc, game, known, results))
 }
 
 /// Whether winners and choices are a solution of the game. The answer is 0, and the report is blank; or it is their first
@@ -81,29 +66,24 @@ pub extern "C" fn pgboard_solve_known(
 #[unsafe(no_mangle)]
 pub extern "C" fn pgboard_check(
     alloc: Global,
-    game: &Arrays,
+    game: &GameArrays,
     solution: &SolutionArrays,
     report: &mut Report,
 ) -> u32
-    ensures holds { result ≡ 0 → AreSolution (game_arrays game.now) (solution_arrays solution.now) }
-    ensures blank { result ≡ 0 → IsBlank report.new }
-    ensures refused { result ≢ 0 → (e : Fault) × IsReported e result report.new × IsCheckFault (game_arrays game.now) (solution_arrays solution.now) e }
+    ensures { Returns (IsCheckOutcome (game_lists game.now) (solution_lists solution.now)) result report.new }
 {
-    reported!(report, check(alloc, game, solution))
+    reported(report, check(alloc, game, solution))
 }
 
 /// Solves the game of the arrays, unless there is a limit and the recursion needs more steps. After a refusal the arrays for
 /// results are unchanged.
 fn solve(
     alloc: Global,
-    arrays: &Arrays,
+    arrays: &GameArrays,
     limit: Option<u64>,
     results: &mut Results,
 ) -> Result<(), Fault>
-    ensures solved { OnOk result (AreSolved (game_arrays arrays.now) (result_arrays results.new)) }
-    ensures fault { IfErr result (λ e. IsSolveFault limit (game_arrays arrays.now) (result_arrays results.old) e) }
-    ensures kept { OnErr result (result_arrays results.new ≡ result_arrays results.old) }
-    ensures struct_kept { IsSameStruct results.old results.new }
+    ensures { IsSolveOutcome limit (game_lists arrays.now) results.old results.new result }
 {
     let forward = arrays.forward_game(alloc)?;
     results.check_lengths(&forward)?;
@@ -118,14 +98,11 @@ fn solve(
 /// Solves the game of the arrays, from what is known of it. After a refusal the arrays for results are unchanged.
 fn solve_known(
     alloc: Global,
-    arrays: &Arrays,
+    arrays: &GameArrays,
     given: &SolutionArrays,
     results: &mut Results,
 ) -> Result<(), Fault>
-    ensures solved { OnOk result (AreSolvedFrom (game_arrays arrays.now) (solution_arrays given.now) (result_arrays results.new)) }
-    ensures fault { IfErr result (λ e. IsSolveFromFault (game_arrays arrays.now) (solution_arrays given.now) (result_arrays results.old) e) }
-    ensures kept { OnErr result (result_arrays results.new ≡ result_arrays results.old) }
-    ensures struct_kept { IsSameStruct results.old results.new }
+    ensures { IsSolveFromOutcome (game_lists arrays.now) (solution_lists given.now) results.old results.new result }
 {
     let forward = arrays.forward_game(alloc)?;
     given.check_lengths(&forward)?;
@@ -145,9 +122,8 @@ fn solve_known(
 }
 
 /// Whether winners and choices are a solution of the game of the arrays.
-fn check(alloc: Global, arrays: &Arrays, given: &SolutionArrays) -> Result<(), Fault>
-    ensures holds { OnOk result (AreSolution (game_arrays arrays.now) (solution_arrays given.now)) }
-    ensures fault { IfErr result (λ e. IsCheckFault (game_arrays arrays.now) (solution_arrays given.now) e) }
+fn check(alloc: Global, arrays: &GameArrays, given: &SolutionArrays) -> Result<(), Fault>
+    ensures { IsCheckOutcome (game_lists arrays.now) (solution_lists given.now) result }
 {
     let game = arrays.forward_game(alloc)?;
     given.check_lengths(&game)?;

@@ -1,12 +1,10 @@
 //! The exports on texts in PGSolver's formats, which are in the caller's memory. A game is solved in the calling thread.
 
-ghost use Rattle.std.specs.Prelude.{◌≡◌, ◌≢◌, ◌<◌, ℕ, List, length, IfOk, OnOk, OnErr, IfErr};
+ghost use Rattle.std.specs.Prelude.{◌≡◌, ◌<◌, ℕ, List, length, IfOk, IfErr, MatchResult};
 ghost use Rattle.pg_game.specs.Graph.{IsGame};
-ghost use Rattle.pg_text.specs.Solution.{SolutionRows, IsSolution};
-ghost use Rattle.pg_text.specs.Reading.{IsTextOf, IsSolutionTextOf};
-ghost use Rattle.pgboard_c.specs.declared.fault.Fault.{Fault};
-ghost use Rattle.pgboard_c.specs.Numbers.{IsReported, IsBlank};
-ghost use Rattle.pgboard_c.specs.Texts.{IsWritten, IsSolvedText, IsTidyText, IsRefusedGameText, IsTextFault, AreVerified, IsVerifyFault};
+ghost use Rattle.pg_text.specs.Reading.{IsTextOf};
+ghost use Rattle.pgboard_c.specs.Numbers.{Returns};
+ghost use Rattle.pgboard_c.specs.Texts.{IsWritten, IsSolvedText, IsTidyText, IsTextOutcome, IsRefusedGameText, IsVerifyOutcome};
 
 use crate::fault::{Fault, Report, reported};
 use pg_board::Board;
@@ -29,13 +27,9 @@ pub extern "C" fn pgboard_solve_text(
     size: &mut usize,
     report: &mut Report,
 ) -> u32
-    ensures solved { result ≡ 0 → (answer : List ℕ) × IsSolvedText game.now answer × IsWritten into.old into.new size.new answer }
-    ensures blank { result ≡ 0 → IsBlank report.new }
-    ensures refused { result ≢ 0 → (e : Fault) × IsReported e result report.new × IsTextFault IsSolvedText game.now (length into.old) e }
-    ensures kept { result ≢ 0 → into.new ≡ into.old }
-    ensures size_kept { result ≢ 0 → size.new ≡ size.old }
+    ensures { Returns (IsTextOutcome IsSolvedText game.now into.old into.new size.old size.new) result report.new }
 {
-    reported!(report, solve(alloc, game, into), written => *size = written)
+    reported(report, solve(alloc, game, into, size))
 }
 
 /// Writes the game that a text spells in its one written form to the front of the buffer, and its size. The answer is 0,
@@ -48,13 +42,9 @@ pub extern "C" fn pgboard_tidy_text(
     size: &mut usize,
     report: &mut Report,
 ) -> u32
-    ensures tidied { result ≡ 0 → (answer : List ℕ) × IsTidyText game.now answer × IsWritten into.old into.new size.new answer }
-    ensures blank { result ≡ 0 → IsBlank report.new }
-    ensures refused { result ≢ 0 → (e : Fault) × IsReported e result report.new × IsTextFault IsTidyText game.now (length into.old) e }
-    ensures kept { result ≢ 0 → into.new ≡ into.old }
-    ensures size_kept { result ≢ 0 → size.new ≡ size.old }
+    ensures { Returns (IsTextOutcome IsTidyText game.now into.old into.new size.old size.new) result report.new }
 {
-    reported!(report, tidy(alloc, game, into), written => *size = written)
+    reported(report, tidy(alloc, game, into, size))
 }
 
 /// Whether a text is a solution of the game that another spells. The answer is 0, and the report is blank; or it is the
@@ -66,18 +56,14 @@ pub extern "C" fn pgboard_verify_text(
     solution: &[u8],
     report: &mut Report,
 ) -> u32
-    ensures holds { result ≡ 0 → AreVerified game.now solution.now }
-    ensures blank { result ≡ 0 → IsBlank report.new }
-    ensures refused { result ≢ 0 → (e : Fault) × IsReported e result report.new × IsVerifyFault game.now solution.now e }
+    ensures { Returns (IsVerifyOutcome game.now solution.now) result report.new }
 {
-    reported!(report, verify(alloc, game, solution))
+    reported(report, verify(alloc, game, solution))
 }
 
-/// Writes a solution of the game that a text spells, and returns its size.
-fn solve(alloc: Global, text: &[u8], into: &mut [u8]) -> Result<usize, Fault>
-    ensures solved { IfOk result (λ n. (answer : List ℕ) × IsSolvedText text.now answer × IsWritten into.old into.new n answer) }
-    ensures fault { IfErr result (λ e. IsTextFault IsSolvedText text.now (length into.old) e) }
-    ensures kept { OnErr result (into.new ≡ into.old) }
+/// Writes a solution of the game that a text spells, and its size.
+fn solve(alloc: Global, text: &[u8], into: &mut [u8], size: &mut usize) -> Result<(), Fault>
+    ensures { IsTextOutcome IsSolvedText text.now into.old into.new size.old size.new result }
 {
     let forward = forward_game_of(alloc, text)?;
     let game = Game::of_forward(alloc, forward)?;
@@ -85,7 +71,7 @@ fn solve(alloc: Global, text: &[u8], into: &mut [u8]) -> Result<usize, Fault>
         unreachable!()
     };
     let answer = write_solution(alloc, &game, &solution)?;
-    copy_to_front(answer.as_slice(), into)
+    copy_to_front(answer.as_slice(), into, size)
 }
 
 /// The game that a text spells, without predecessors.
@@ -103,35 +89,32 @@ pub fn forward_game_of(alloc: Global, text: &[u8]) -> Result<ForwardGame, Fault>
     }
 }
 
-/// Copies the text to the front of the buffer, and returns its size.
-pub fn copy_to_front(text: &[u8], into: &mut [u8]) -> Result<usize, Fault>
-    ensures held { IfOk result (λ n. IsWritten into.old into.new n text.now) }
-    ensures small { IfErr result (λ e. (e ≡ Fault.Capacity (length text.now)) × (length into.old < length text.now)) }
-    ensures kept { OnErr result (into.new ≡ into.old) }
+/// Copies the text to the front of the buffer, and its size.
+pub fn copy_to_front(text: &[u8], into: &mut [u8], size: &mut usize) -> Result<(), Fault>
+    ensures { MatchResult result (λ _. IsWritten into.old into.new size.new text.now)
+        (λ e. (e ≡ Fault.Capacity (length text.now)) × (length into.old < length text.now) × (into.new ≡ into.old) × (size.new ≡ size.old)) }
 {
     let n = text.len();
     if into.len() < n {
         return Err(Fault::Capacity(n));
     }
     into[..n].copy_from_slice(text);
-    Ok(n)
+    *size = n;
+    Ok(())
 }
 
-/// Writes the game that a text spells in its one written form, and returns its size.
-fn tidy(alloc: Global, text: &[u8], into: &mut [u8]) -> Result<usize, Fault>
-    ensures tidied { IfOk result (λ n. (answer : List ℕ) × IsTidyText text.now answer × IsWritten into.old into.new n answer) }
-    ensures fault { IfErr result (λ e. IsTextFault IsTidyText text.now (length into.old) e) }
-    ensures kept { OnErr result (into.new ≡ into.old) }
+/// Writes the game that a text spells in its one written form, and its size.
+fn tidy(alloc: Global, text: &[u8], into: &mut [u8], size: &mut usize) -> Result<(), Fault>
+    ensures { IsTextOutcome IsTidyText text.now into.old into.new size.old size.new result }
 {
     let game = forward_game_of(alloc, text)?;
     let answer = write_forward_game(alloc, &game)?;
-    copy_to_front(answer.as_slice(), into)
+    copy_to_front(answer.as_slice(), into, size)
 }
 
 /// Whether the texts are a game and a solution of it.
 fn verify(alloc: Global, game: &[u8], solution: &[u8]) -> Result<(), Fault>
-    ensures holds { OnOk result (AreVerified game.now solution.now) }
-    ensures fault { IfErr result (λ e. IsVerifyFault game.now solution.now e) }
+    ensures { IsVerifyOutcome game.now solution.now result }
 {
     let game = forward_game_of(alloc, game)?;
     verify_on(alloc, &game, solution)
@@ -139,8 +122,7 @@ fn verify(alloc: Global, game: &[u8], solution: &[u8]) -> Result<(), Fault>
 
 /// Whether a text is a solution of a game.
 fn verify_on(alloc: Global, game: &ForwardGame, text: &[u8]) -> Result<(), Fault>
-    ensures holds { OnOk result ((rows : SolutionRows) × IsSolutionTextOf game.now text.now rows × IsSolution game.now rows) }
-    ensures fault { IfErr result (λ e. (text_of : List ℕ) → IsTextOf text_of game.now → IsVerifyFault text_of text.now e) }
+    ensures { (text_of : List ℕ) → IsTextOf text_of game.now → IsVerifyOutcome text_of text.now result }
 {
     if text.len() > MAX_TEXT {
         return Err(Fault::SolutionTooLong);

@@ -1,5 +1,5 @@
 //! The program `pgboard`: it takes the words of the command line, opens the files, hands them with standard output to
-//! `pgboard::run_over`, and ends with the status of the outcome. A fault goes to standard error.
+//! `pgboard::run_asked`, and ends with the status of the outcome. A fault goes to standard error.
 #![tactic(auto)]
 
 ghost use Rattle.std.specs.Prelude.{ℕ, List, ◌≡◌, ◌⊎◌, None, Ok, IfOk, IfErr, codes, is_some, true};
@@ -11,7 +11,9 @@ ghost use Rattle.pgboard.specs.declared.fault.RunFault.{RunFault};
 ghost use Rattle.pgboard.specs.Status.{status_of, asked_status_of};
 ghost use Rattle.pgboard_program.specs.Input.{IsFile};
 
-use pgboard::{Asked, AskedFault, RunFault, Std, asked, run_over};
+use pg_finders::Standard;
+use pg_workers::Pass;
+use pgboard::{Asked, AskedFault, RunFault, Std, asked, run_asked};
 use std::alloc::Global;
 use std::env;
 use std::fs::File;
@@ -102,7 +104,7 @@ fn open(rt: &HostRuntime, path: Option<&str>, other: Input) -> Result<Std<Input>
     }
 }
 
-/// Runs what was asked for on these inputs and standard output.
+/// Runs what was asked for on these inputs and standard output, by the finder `Standard` and with a gate that holds nobody.
 fn run_to_output<T: Threads + Wait + Sync>(
     rt: &HostRuntime,
     threads: &T,
@@ -117,7 +119,16 @@ fn run_to_output<T: Threads + Wait + Sync>(
     ensures fault { IfErr result (λ fault. FailsFor asked.now None None fault) }
 {
     let mut out = Std::new(rt.stdout());
-    run_over(threads, rt.alloc(), asked, input, second, &mut out)
+    run_asked(
+        threads,
+        rt.alloc(),
+        asked,
+        input,
+        second,
+        &mut out,
+        &Pass,
+        &Standard,
+    )
 }
 
 /// The status of a run. Its fault is printed.

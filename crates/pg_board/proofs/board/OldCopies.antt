@@ -1,4 +1,4 @@
--- A claim that was a dominion after some entries is posted, or it is stale: it is refused for no other reason.
+-- What a board answers to a claim. One that was a dominion after some entries is posted, or it is stale: it is refused for no other reason.
 use Rattle.pg_board.proofs.Common.{rules, ◌≡◌, ℕ, ◌+◌, ◌||◌, ◌↔◌, inl, inr, [], ◌∷◌, length, take, refl, sym, ◌∙◌, ap, subst, arith, Err, Result, drop, fun_ext}
 use Rattle.pg_board.proofs.Common.{take-append-drop, or-false, Player, opponent, Graph, IsGame, VertexSet, In, all_vertices, union, Attractor, is_same, Claim}
 use Rattle.pg_board.proofs.Common.{ClaimRows, named, choice_in, AreRight, IsClaimFault, Posted, Refusal, Regions, IsBoard, settled, rest_of}
@@ -7,8 +7,10 @@ use Rattle.std.proofs.Common.{Ok, length-take, IfOk, IfErr, OnErr}
 use Rattle.pg_game.proofs.Rotate.{none_from_good}
 use Rattle.pg_dominion.specs.declared.claim.ClaimFault.{ClaimFault}
 use Rattle.pg_dominion.specs.Claim.{HasShape, IsFirstWrongRow}
+use Rattle.pg_dominion.specs.Checked.{CheckedClaim, claim_of, AgreesWithGame}
 use Rattle.pg_dominion.proofs.Shape.{AreRight-front}
-use Rattle.pg_board.specs.Post.{SettlesDominion}
+use Rattle.pg_board.specs.Refusal.{IsOfState}
+use Rattle.pg_board.specs.Post.{SettlesDominion, IsPostAnswer, IsSettleAnswer}
 use Rattle.pg_board.proofs.PushedEntry.{IsAdded, theirs}
 use Rattle.pg_board.proofs.Lawful.{lawful_push}
 use Rattle.pg_board.proofs.Dominion.{never_lost, stays_closed}
@@ -23,6 +25,7 @@ shape_is_right g p rows i shape (inr (l, a, wrong)) = wrong (AreRight-front g p 
 
 -- what a board answers to the claim, and what it then is
 pub record IsAnswered (x new : BoardRecord) (worker : ℕ) (claim : Claim) (result : Result Posted Refusal) : Type 0 where
+  pub game : new.graph ≡ x.graph
   pub posted : IfOk result (λ posted. IsGoodOn x.graph (state_of x.journal) claim.player claim.rows × Adds x new worker claim posted)
   pub refused : IfErr result (λ e. Refuses x.graph (state_of x.journal) claim.player claim.rows e)
   pub unchanged : OnErr result (new ≡ x)
@@ -77,7 +80,7 @@ module _ (x : BoardRecord) (holds : IsLawfulRecord x) (claim : Claim) (k : ℕ) 
   claimed_size : (worker : ℕ) (new : BoardRecord) (posted : Posted) → Adds x new worker claim posted → posted.claimed ≡ length (rest_of (state_of old) rows)
   claimed_size worker new posted a = search (rules, a.entry.claimed, a.answers.rest, a.answers.claimed, a.claimed, length-take)
 
-  pub old_copy : (new : BoardRecord) (worker : ℕ) (result : Result Posted Refusal) → IsAnswered x new worker claim result
+  old_copy : (new : BoardRecord) (worker : ℕ) (result : Result Posted Refusal) → IsAnswered x new worker claim result
       → AnswersDominion (state_of old) rows result × SettlesUnlessMemory x new p rows result
   old_copy new worker (Ok posted) h = (claimed_size worker new posted h.posted.1, settles_posted new worker posted h.posted.0 h.posted.1)
   old_copy new worker (Err refusal.Memory) h = (tt, tt)
@@ -88,8 +91,34 @@ module _ (x : BoardRecord) (holds : IsLawfulRecord x) (claim : Claim) (k : ℕ) 
   old_copy new worker (Err (refusal.Open v w)) h = absurd (let e = h.refused.2.edge in e.1 (stays_closed g old holds.lawful k p rows d v w e.0))
 
 -- the journal is lawful after a post
-pub lawful_after : {x new : BoardRecord} {worker : ℕ} {claim : Claim} (result : Result Posted Refusal) → IsLawfulRecord x → IsAnswered x new worker claim result
-    → new.graph ≡ x.graph → IsLawful new.graph new.journal
-lawful_after (Ok posted) holds h graph =
-    rw (graph, h.posted.1.journal) (lawful_push (added_by holds h.posted.0 h.posted.1))
-lawful_after (Err e) holds h graph = subst (λ (y : BoardRecord). IsLawful y.graph y.journal) (sym h.unchanged) holds.lawful
+lawful_after : {x new : BoardRecord} {worker : ℕ} {claim : Claim} (result : Result Posted Refusal) → IsLawfulRecord x → IsAnswered x new worker claim result
+    → IsLawful new.graph new.journal
+lawful_after (Ok posted) holds h = rw (h.game, h.posted.1.journal) (lawful_push (added_by holds h.posted.0 h.posted.1))
+lawful_after (Err e) holds h = subst (λ (y : BoardRecord). IsLawful y.graph y.journal) (sym h.unchanged) holds.lawful
+
+pub post_answer : (x new : BoardRecord) (worker : ℕ) (claim : Claim) (result : Result Posted Refusal) → IsLawfulRecord x → IsAnswered x new worker claim result
+    → IsPostAnswer x new worker claim result
+post_answer x new worker claim result holds h = record {
+  lawful = lawful_after result holds h;
+  game = h.game;
+  posted = h.posted;
+  refused = h.refused;
+  unchanged = h.unchanged;
+  old_copies = λ k d. old_copy x holds claim k d new worker result h;
+}
+
+-- the answer of a board that is as before
+pub refusal_answer : (x : BoardRecord) (worker : ℕ) (claim : Claim) (e : Refusal) → IsLawfulRecord x
+    → Refuses x.graph (state_of x.journal) claim.player claim.rows e → IsPostAnswer x x worker claim (Err e)
+refusal_answer x worker claim e holds h = post_answer x x worker claim (Err e) holds (record { game = refl; posted = tt; refused = h; unchanged = refl })
+
+-- the answer to a checked claim that agrees with the game
+pub settle_answer : (x new : BoardRecord) (worker : ℕ) (c : CheckedClaim) (result : Result Posted Refusal) → AgreesWithGame x.graph c.player c.rows
+    → IfErr result IsOfState → IsPostAnswer x new worker (claim_of c) result → IsSettleAnswer x new worker c result
+settle_answer x new worker c (Ok posted) a s h = record { agrees = a; of_state = s; answer = h }
+settle_answer x new worker c (Err (refusal.Claim fault)) a s h = absurd s
+settle_answer x new worker c (Err (refusal.Foreign v)) a s h = absurd s
+settle_answer x new worker c (Err (refusal.Lost v)) a s h = record { agrees = a; of_state = s; answer = h }
+settle_answer x new worker c (Err refusal.Stale) a s h = record { agrees = a; of_state = s; answer = h }
+settle_answer x new worker c (Err (refusal.Open v w)) a s h = record { agrees = a; of_state = s; answer = h }
+settle_answer x new worker c (Err refusal.Memory) a s h = record { agrees = a; of_state = s; answer = h }

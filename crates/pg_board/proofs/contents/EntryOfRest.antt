@@ -3,7 +3,7 @@ use Rattle.pg_board.proofs.Common.{rules, ◌≡◌, ℕ, ◌+◌, ◌≤◌, Bo
 use Rattle.pg_board.proofs.Common.{length-append, ◌↔◌, if◌then◌else◌, fun_ext, sum_by_push, take-length, Player, Graph, IsGame, VertexSet, In, Within}
 use Rattle.pg_board.proofs.Common.{all_vertices, union, members, IsSubgame, Attractor, ClaimRows, named, IsAttraction, named_right, Entry, State, settled}
 use Rattle.pg_board.proofs.Common.{unsettled, rest_of, IsGoodOn, Journal, state_of, claimed_rows, Answers, IsLawful, number_settled, Regions, table_state}
-use Rattle.pg_board.proofs.Common.{state_with, AreRegions, IsBoard, All-from_get_or, or_assoc, named-append, open_before, IsGrowing, IsDistinct, nat_eq, nat_lt}
+use Rattle.pg_board.proofs.Common.{state_with, AreRegions, IsBoard, All-from_get_or, or_assoc, named-append, open_before, HasWritten, IsDistinct, nat_eq, nat_lt}
 use Rattle.pg_board.proofs.Common.{is_unsettled, ◌<◌, ap, ltb-true, eqb-true, and_parts, or_left, false_from_ne_true}
 use Rattle.std.proofs.lemmas.List.Sums.{sum_by-le}
 use Rattle.std.proofs.Math.Seq.{take-append_seam, drop-append_seam}
@@ -13,10 +13,10 @@ use Rattle.pg_board.proofs.Lawful.{lawful_push}
 use Rattle.pg_board.proofs.Numbers.{lawful_now, number_within, sum_fits, all_named}
 use Rattle.std.proofs.lemmas.Bool.{and_from}
 use Rattle.pg_dominion.specs.AttractorState.{AttractsNoFurther}
-use Rattle.pg_dominion.specs.private.Attracting.{LeadFrom}
+use Rattle.pg_dominion.specs.private.FreeVertices.{LeadFrom}
 use Rattle.pg_dominion.proofs.AttractionSteps.{grown_attraction, grown_rows}
 use Rattle.pg_dominion.proofs.TakenRow.{lead_none}
-use Rattle.pg_board.specs.private.Growth.{Grows}
+use Rattle.pg_board.specs.private.WrittenRows.{WritesInTurn}
 use Rattle.pg_board.proofs.WholeAttractor.{whole}
 
 -- a rest lies in the unsettled part
@@ -152,9 +152,9 @@ module _ {g : Graph} {j : Journal} {r : Regions} {number : ℕ} {p : Player} {R 
     grown_fits = entry_fits (record { worker = 0; player = p; claimed = length R; rows = rows }) (record { player = refl; claimed = refl; rows_are = refl })
 
 -- at the start of a growth there is capacity for a row of each vertex
-pub IsGrowing-start : (g : Graph) (r : Regions) (rows : ClaimRows) (spare : ℕ) → AreRegions g r → rows ≡ [] → length g ≤ spare
-    → IsGrowing g r rows spare
-IsGrowing-start g r rows spare regions none size = subst (λ (xs : ClaimRows). IsGrowing g r xs spare) (sym none) (record {
+pub HasWritten-start : (g : Graph) (r : Regions) (rows : ClaimRows) (spare : ℕ) → AreRegions g r → rows ≡ [] → length g ≤ spare
+    → HasWritten g r rows spare
+HasWritten-start g r rows spare regions none size = subst (λ (xs : ClaimRows). HasWritten g r xs spare) (sym none) (record {
   regions = regions;
   apart = λ v n. absurd (let h : false ≡ true = n in cc h);
   fits =
@@ -166,11 +166,11 @@ IsGrowing-start g r rows spare regions none size = subst (λ (xs : ClaimRows). I
     ones b = if b then 1 else 0
 
 -- a greater capacity suffices
-pub IsGrowing-more : (g : Graph) (r : Regions) (rows : ClaimRows) (n m : ℕ) → n ≤ m → IsGrowing g r rows n → IsGrowing g r rows m
-IsGrowing-more g r rows n m l growing = search (rules, growing.regions, growing.apart, growing.fits)
+pub HasWritten-more : (g : Graph) (r : Regions) (rows : ClaimRows) (n m : ℕ) → n ≤ m → HasWritten g r rows n → HasWritten g r rows m
+HasWritten-more g r rows n m l growing = search (rules, growing.regions, growing.apart, growing.fits)
 
 -- the claim's rows are settled, and then what they attract
-module _ (g : Graph) (p : Player) (r1 r2 : Regions) (R rows : ClaimRows) (grows : Grows g p r1 R r2 rows) where
+module _ (g : Graph) (p : Player) (r1 r2 : Regions) (R rows : ClaimRows) (grows : WritesInTurn g p r1 R r2 rows) where
   front : take (length R) rows ≡ R
   front = grows.extends.more.front (length R) (omega arith) ∙ take-length R
 

@@ -13,13 +13,13 @@ use Rattle.pg_board.specs.private.Regions.{IsBoard}
 abbrev pub board_record : Graph → Contents → BoardRecord
 board_record g c = record { graph = g; journal = c.entries.items }
 
-abbrev pub IsOf : Graph → Contents → Type 0
-IsOf g c = IsBoard g c.entries.items c.regions c.number
+abbrev pub IsContentsOf : Graph → Contents → Type 0
+IsContentsOf g c = IsBoard g c.entries.items c.regions c.number
 
 -- the same of a session, which has contents
-abbrev pub AreOf : Graph → Option Contents → Type 0
-AreOf g None = ⊥
-AreOf g (Some c) = IsOf g c
+abbrev pub AreContentsOf : Graph → Option Contents → Type 0
+AreContentsOf g None = ⊥
+AreContentsOf g (Some c) = IsContentsOf g c
 
 -- the rows' vertices are settled for the player
 abbrev pub Settles : Journal → Player → ClaimRows → Type 0

@@ -4,7 +4,7 @@ use Rattle.pg_game.specs.declared.player.Player.{Player}
 use Rattle.pg_game.specs.Graph.{Graph, successors_of}
 use Rattle.pg_game.specs.VertexSet.{members}
 use Rattle.pg_dominion.specs.Claim.{ClaimRows, named, choice_in}
-use Rattle.pg_dominion.specs.private.Attracting.{ArePassed}
+use Rattle.pg_dominion.specs.private.FreeVertices.{ArePassed}
 use Rattle.pg_board.specs.declared.regions.Regions.{Regions}
 use Rattle.pg_board.specs.declared.regions.VertexState.{VertexState}
 use Rattle.pg_board.specs.declared.regions.VertexState.TheVariants.{Unsettled}

@@ -2,7 +2,7 @@
 use Rattle.pg_dominion.proofs.Common.{rules, ◌≡◌, ◌≢◌, ℕ, suc, ◌<◌, ◌≤◌, ◌↔◌, true, false, inl, inr, List, [], ◌∷◌, ◌++◌, length, get_or, refl, sym, ◌∙◌, ap}
 use Rattle.pg_dominion.proofs.Common.{subst, arith, Option, None, ◌==◌, Contains, list_any, eqb-true, cases_Bool, Contains-append_left, Player, Graph}
 use Rattle.pg_dominion.proofs.Common.{priority_of, In, KeptEdge, kept, Walk, greatest_priority, OnBadWalk, NoneHas, IsLeast, is_same, ClaimRows, named}
-use Rattle.pg_dominion.proofs.Common.{choice_in, is_bad, IsRightRow, AllByRecursion, Stays, AreNamed, or_parts, Bool, same_player, owner_of}
+use Rattle.pg_dominion.proofs.Common.{choice_in, is_bad, IsRightRow, AllByRecursion, LeadsToListed, AreNamed, or_parts, Bool, same_player, owner_of}
 use Rattle.pg_dominion.specs.private.Shape.{ends_at}
 use Rattle.std.specs.Prelude.{MatchOption, slice_index}
 use Rattle.std.proofs.lemmas.List.{append_assoc}
@@ -32,18 +32,18 @@ module _ (g : Graph) (p : Player) (rows : ClaimRows) where
   pub kept_in_row : (v : ℕ) (c : Option ℕ) → IsRightRow g p (v, c) → choice_in rows v ≡ c → ends_at g v c ≡ kept g p (choice_in rows) v
   kept_in_row v c a e = kept_cases v c a e (same_player (owner_of g v) p) refl
 
-  pub Stays-from_row : (start : ℕ) (list : List ℕ) (v : ℕ) (ws : List ℕ) (n : ℕ) → ws ≡ kept g p (choice_in rows) v → length ws ≤ n
+  pub LeadsToListed-from_row : (start : ℕ) (list : List ℕ) (v : ℕ) (ws : List ℕ) (n : ℕ) → ws ≡ kept g p (choice_in rows) v → length ws ≤ n
       → ((i : ℕ) → i < n → In (named rows) (slice_index ws i) → priority_of g (slice_index ws i) ≤ priority_of g start
       → (slice_index ws i ≢ start) × Contains list (slice_index ws i))
-      → Stays g p rows start list v
-  Stays-from_row start list v ws n e l h w edge i low =
+      → LeadsToListed g p rows start list v
+  LeadsToListed-from_row start list v ws n e l h w edge i low =
       let q = place_in (kept g p (choice_in rows) v) ws w e edge.1 in
       let i' : In (named rows) (slice_index ws q.0) = subst (λ (x : ℕ). In (named rows) x) (sym q.2) i in
       let low' : priority_of g (slice_index ws q.0) ≤ priority_of g start = subst (λ (x : ℕ). priority_of g x ≤ priority_of g start) (sym q.2) low in
       subst (λ (x : ℕ). (x ≢ start) × Contains list x) q.2 (h q.0 (omega (arith, q.1)) i' low')
 
-  pub Stays-longer : (start : ℕ) (list more : List ℕ) (v : ℕ) → Stays g p rows start list v → Stays g p rows start (list ++ more) v
-  Stays-longer start list more v s w e i l = let h = s w e i l in (h.0, Contains-append_left list more w h.1)
+  pub LeadsToListed-longer : (start : ℕ) (list more : List ℕ) (v : ℕ) → LeadsToListed g p rows start list v → LeadsToListed g p rows start (list ++ more) v
+  LeadsToListed-longer start list more v s w e i l = let h = s w e i l in (h.0, Contains-append_left list more w h.1)
 
   abbrev Own : ℕ → ℕ → Type 0
   Own = KeptEdge g p (named rows) (choice_in rows)
@@ -52,19 +52,19 @@ module _ (g : Graph) (p : Player) (rows : ClaimRows) where
   starts = starts_in g p (named rows) (choice_in rows)
 
   -- a walk of no greater priority ends elsewhere
-  ends_elsewhere : (start : ℕ) (list : List ℕ) → ((w : ℕ) → Contains list w → Stays g p rows start list w)
+  ends_elsewhere : (start : ℕ) (list : List ℕ) → ((w : ℕ) → Contains list w → LeadsToListed g p rows start list w)
       → (v : ℕ) (vs : List ℕ) (last : ℕ)
-      → Stays g p rows start list v → Walk Own v vs last → greatest_priority g vs ≤ priority_of g start
+      → LeadsToListed g p rows start list v → Walk Own v vs last → greatest_priority g vs ≤ priority_of g start
       → In (named rows) last → priority_of g last ≤ priority_of g start → last ≢ start
   ends_elsewhere start list all v [] last s e low i l = (s last e i l).0
   ends_elsewhere start list all v (w ∷ ws) last s e low i l =
       ends_elsewhere start list all w ws last (all w (s w e.0 (starts w ws last e.1) (omega (arith, low))).1) e.1 (omega (arith, low)) i l
 
-  pub none_returns : (start : ℕ) (list : List ℕ) (n : ℕ) → length list ≤ n → Stays g p rows start list start
-      → ((i : ℕ) → i < n → Stays g p rows start list (slice_index list i)) → OnBadWalk g p (named rows) (choice_in rows) start → ⊥
+  pub none_returns : (start : ℕ) (list : List ℕ) (n : ℕ) → length list ≤ n → LeadsToListed g p rows start list start
+      → ((i : ℕ) → i < n → LeadsToListed g p rows start list (slice_index list i)) → OnBadWalk g p (named rows) (choice_in rows) start → ⊥
   none_returns start list n l first rest (vs, walk, top, parity) =
-      let all : (w : ℕ) → Contains list w → Stays g p rows start list w
-      = λ w c. (let q = place_in list list w refl c in subst (λ (x : ℕ). Stays g p rows start list x) q.2 (rest q.0 (omega (arith, q.1)))) in
+      let all : (w : ℕ) → Contains list w → LeadsToListed g p rows start list w
+      = λ w c. (let q = place_in list list w refl c in subst (λ (x : ℕ). LeadsToListed g p rows start list x) q.2 (rest q.0 (omega (arith, q.1)))) in
       ends_elsewhere start list all start vs start first walk (omega (arith, top)) (starts start vs start walk) (omega arith) refl
 
   -- the place of a named vertex

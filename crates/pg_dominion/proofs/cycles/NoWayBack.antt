@@ -2,7 +2,7 @@
 use Rattle.pg_dominion.proofs.Common.{◌≡◌, ◌≢◌, ℕ, ◌+◌, ◌<◌, ◌≤◌, ◌⊎◌, inl, inr, List, [], ◌∷◌, length, set, refl, sym, ◌∙◌, ap, subst, arith, length-set}
 use Rattle.pg_dominion.proofs.Common.{get_or-set_same, get_or-set_other, rules, cases_eq, cases_lt, get_or-replicate, get_or_past, priority_of, Walk}
 use Rattle.pg_dominion.proofs.Common.{StrategyGraph}
-use Rattle.pg_dominion.proofs.Common.{EdgeUnder, Leads, Reaches, AreLabelled, IsQueued, IsFollowed, Searching, IsSpread, AreNoted}
+use Rattle.pg_dominion.proofs.Common.{EdgeUnder, Leads, Reaches, AreLabelled, IsQueued, IsFollowed, AreReached, IsSpread, AreNoted, label_lists, reached_lists}
 use Rattle.std.proofs.Common.{replicate}
 use Rattle.std.proofs.lemmas.List.{length-replicate}
 use Rattle.std.specs.Prelude.{slice_index}
@@ -21,13 +21,13 @@ pub labelled_blank : (k : StrategyGraph) (n : ℕ) → n ≡ length k.game.now �
 labelled_blank k n e levels groups l m = search (rules, length-replicate, blank_at)
 
 module _ (levels groups places queue : List ℕ) (level start least : ℕ) where
-  pub noted_none : AreNoted levels groups places queue level start least 0 levels groups
+  pub noted_none : AreNoted (label_lists levels groups) (reached_lists places queue least) level start 0 (label_lists levels groups)
   noted_none = search (rules)
 
   pub noted_next : (levels' groups' : List ℕ) (n v g : ℕ) → slice_index queue n ≡ v → slice_index places v ≡ n → v < length levels'
       → v < length groups'
-      → IsGroupAt start least n v g → AreNoted levels groups places queue level start least n levels' groups'
-      → AreNoted levels groups places queue level start least (n + 1) (set levels' v level) (set groups' v g)
+      → IsGroupAt start least n v g → AreNoted (label_lists levels groups) (reached_lists places queue least) level start n (label_lists levels' groups')
+      → AreNoted (label_lists levels groups) (reached_lists places queue least) level start (n + 1) (label_lists (set levels' v level) (set groups' v g))
   noted_next levels' groups' n v g e p l m h old = record {
     levels_size = length-set levels' v level ∙ old.levels_size;
     groups_size = length-set groups' v g ∙ old.groups_size;
@@ -58,7 +58,7 @@ module _ (levels groups places queue : List ℕ) (level start least : ℕ) where
 -- a search that has reached its start alone
 pub searching_first : (k : StrategyGraph) (levels groups : List ℕ) (top own : ℕ) (places : List ℕ) (start : ℕ) → start < length k.game.now
     → length places ≡ length k.game.now → (top < slice_index levels start → slice_index groups start ≡ own)
-    → Searching k levels groups top own (set places start 0) (start ∷ [])
+    → AreReached k levels groups top own (set places start 0) (start ∷ [])
 searching_first k levels groups top own places start l size counts = record {
   size = length-set places start 0 ∙ size;
   some = omega arith;
@@ -72,7 +72,7 @@ searching_first k levels groups top own places start l size counts = record {
     zero_at i li = omega (arith, li)
 
 module _ (k : StrategyGraph) (levels groups : List ℕ) (top own least : ℕ) (places queue : List ℕ)
-    (labels : AreLabelled k levels groups) (s : Searching k levels groups top own places queue)
+    (labels : AreLabelled k levels groups) (s : AreReached k levels groups top own places queue)
     (all : (i : ℕ) → i < length queue → IsSpread k levels groups top own least places queue i) where
   followed : (x w : ℕ) → IsQueued places queue x → EdgeUnder k top x w → IsFollowed levels groups top own least places queue (slice_index places x) w
   followed x w q e = all (slice_index places x) q.0 w (subst (λ (u : ℕ). EdgeUnder k top u w) (sym q.1) e)
@@ -137,7 +137,8 @@ module _ (k : StrategyGraph) (levels groups : List ℕ) (top own least : ℕ) (p
   low o x q = search (rules, cases_lt, labels.blank, counts)
 
   module _ (o : own ≡ 0) (pos : 0 < least) (levels' groups' : List ℕ)
-      (noted : AreNoted levels groups places queue (top + 1) (slice_index queue 0) least (length queue) levels' groups') where
+      (noted : AreNoted (label_lists levels groups) (reached_lists places queue least) (top + 1) (slice_index queue 0) (length queue)
+      (label_lists levels' groups')) where
     together_in : (t x y : ℕ) → IsQueued places queue x → t < slice_index levels' x → Leads k t x y → Leads k t y x → AreAlike levels' groups' x y
     together_in t x y q l there back =
         let lt : t ≤ top = omega (arith, l, noted.inside x q) in

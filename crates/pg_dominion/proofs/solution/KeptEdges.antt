@@ -4,7 +4,7 @@ use Rattle.pg_dominion.proofs.Common.{arith, get_or-set_same, get_or-set_other, 
 use Rattle.pg_dominion.proofs.Common.{cases_Bool, cases_eq, Player, same_player, opponent, of_parity, Graph, IsGame, HasEdge, priority_of, owner_of}
 use Rattle.pg_dominion.proofs.Common.{successors_of, In, members, kept, KeptEdge, Walk, NoneHas, edge_inside, member_below, same_is, is_same, ClosedWalk-weaker}
 use Rattle.pg_dominion.proofs.Common.{winner_of, LacksChoice, HasBadChoice, Leaves, StrategyGraph, IsKept, Edge, IsOnBadCycle, kept_row, Layout, laid_with}
-use Rattle.pg_dominion.proofs.Common.{is_bad, IsPlanned}
+use Rattle.pg_dominion.proofs.Common.{is_bad, HoldsFirstRows}
 use Rattle.pg_dominion.proofs.Common.{LeavesTo, sorted_from_strictly_increasing, below_from_sorted}
 use Rattle.std.specs.Prelude.{slice_index}
 use Rattle.std.proofs.Common.{replicate}
@@ -13,24 +13,25 @@ use Rattle.std.proofs.lemmas.List.{length-replicate}
 use Rattle.pg_game.proofs.Members.{Contains-nil, Contains-one}
 use Rattle.pg_text.specs.Solution.{SolutionRows, choice_of, won_by}
 use Rattle.pg_text.specs.Verdict.{IsOnBadWalk}
-use Rattle.pg_text.proofs.Verdict.{has_or_not, won}
-use Rattle.pg_dominion.specs.private.Plan.{own_choice, IsPlanOf}
+use Rattle.pg_game.proofs.Members.{contains_or_not}
+use Rattle.pg_text.proofs.Verdict.{won}
+use Rattle.pg_dominion.specs.private.JointStrategy.{own_choice, IsJointStrategy}
 use Rattle.pg_dominion.proofs.SearchSteps.{place_in, starts_in}
 use Rattle.pg_dominion.proofs.claim.RowsByVertex.{has_places, choice_at-same, choice_at-other, bad-same, bad-other, layout_of, from_choice, row_cases}
 
 -- nothing is laid out where nothing is marked
-pub IsPlanned-none : (g : Graph) (rows : SolutionRows) (n : ℕ) → n ≡ length g → (t : Layout) → t.inside ≡ replicate n false → t.chosen ≡ replicate n false
-    → t.choices ≡ replicate n 0 → t.bad ≡ replicate n false → IsPlanned g rows 0 t
-IsPlanned-none g rows n size t i c w b = record {
+pub HoldsFirstRows-none : (g : Graph) (rows : SolutionRows) (n : ℕ) → n ≡ length g → (t : Layout) → t.inside ≡ replicate n false → t.chosen ≡ replicate n false
+    → t.choices ≡ replicate n 0 → t.bad ≡ replicate n false → HoldsFirstRows g rows 0 t
+HoldsFirstRows-none g rows n size t i c w b = record {
   sizes = search (rules, length-replicate, size, i, c, w, b);
   inside_is = λ v l. absurd (omega (arith, l));
   choices_is = λ v l. absurd (omega (arith, l));
   bad_is = λ v l. absurd (omega (arith, l));
 }
 
-pub IsPlanned-push : (g : Graph) (rows : SolutionRows) (v : ℕ) (t : Layout) (c : Option ℕ) (b : Bool) → v < length g → c ≡ own_choice g rows v
-    → b ≡ is_bad g (winner_of rows v) v → IsPlanned g rows v t → IsPlanned g rows (v + 1) (laid_with t (v, c) b)
-IsPlanned-push g rows v t c b l e f a = record {
+pub HoldsFirstRows-push : (g : Graph) (rows : SolutionRows) (v : ℕ) (t : Layout) (c : Option ℕ) (b : Bool) → v < length g → c ≡ own_choice g rows v
+    → b ≡ is_bad g (winner_of rows v) v → HoldsFirstRows g rows v t → HoldsFirstRows g rows (v + 1) (laid_with t (v, c) b)
+HoldsFirstRows-push g rows v t c b l e f a = record {
   sizes = has_places g t (v, c) b a.sizes;
   inside_is = λ x lx. elim (cases_eq x v) [
     | inl q ↦ (let h : get_or (set t.inside v true) v false ≡ true = get_or-set_same t.inside v true false (omega (arith, l, a.sizes.inside)) in rw q h)
@@ -67,9 +68,9 @@ module _ (k : StrategyGraph) (rows : SolutionRows) (game : IsGame k.game.now) (s
   pub is_won : (v : ℕ) → v < length g → In (won_by rows (winner_of rows v)) v
   is_won v l = rw (lt-ltb v (length rows) (omega arith)) (is_same (winner_of rows v) (winner_of rows v) refl)
 
-  module _ (plan : IsPlanOf k rows) where
+  module _ (joint : IsJointStrategy k rows) where
     pub leaves_from : (v w : ℕ) → v < length g → LeavesTo k rows v w → Leaves g rows v w
-    leaves_from v w l h = ((is_won v l, subst (λ (xs : List ℕ). Contains xs w) (plan v l) h.0), h.1)
+    leaves_from v w l h = ((is_won v l, subst (λ (xs : List ℕ). Contains xs w) (joint v l) h.0), h.1)
 
     pub leaves_to : (v w : ℕ) → Leaves g rows v w → (v < length g) × LeavesTo k rows v w
     leaves_to v w h = search (rules, won)
@@ -80,7 +81,7 @@ module _ (k : StrategyGraph) (rows : SolutionRows) (game : IsGame k.game.now) (s
           let h = won g rows size p v i in
           let same : winner_of rows w ≡ winner_of rows v = agree (same_player (winner_of rows w) (winner_of rows v)) refl h.0 in
           let lw : w < length g = edge_below v w h.0 m in (
-            (i, subst (λ (q : Player). Contains (kept g q (choice_of rows) v) w) h.1 (subst (λ (xs : List ℕ). Contains xs w) (plan v h.0) m)),
+            (i, subst (λ (q : Player). Contains (kept g q (choice_of rows) v) w) h.1 (subst (λ (xs : List ℕ). Contains xs w) (joint v h.0) m)),
             subst (λ (q : Player). In (won_by rows q) w) (same ∙ h.1) (is_won w lw),
           )
         where
@@ -117,15 +118,15 @@ module _ (k : StrategyGraph) (rows : SolutionRows) (game : IsGame k.game.now) (s
             )),
       )
 
-  module _ (a : IsPlanned g rows (length g) (layout_of k)) (lacks : NoneHas (LacksChoice g rows)) (wrong : NoneHas (HasBadChoice g rows)) where
-    pub planned_is_plan : IsPlanOf k rows
-    planned_is_plan v l = search (rules, row_cases, k.chosen, k.choices.items, a.choices_is, a.inside_is, from_choice, same_is)
+  module _ (a : HoldsFirstRows g rows (length g) (layout_of k)) (lacks : NoneHas (LacksChoice g rows)) (wrong : NoneHas (HasBadChoice g rows)) where
+    pub first_rows_are_joint : IsJointStrategy k rows
+    first_rows_are_joint v l = search (rules, row_cases, k.chosen, k.choices.items, a.choices_is, a.inside_is, from_choice, same_is)
 
 -- the tables of all winners are of the game
-module _ (g : Graph) (rows : SolutionRows) (t : Layout) (game : IsGame g) (size : length rows ≡ length g) (a : IsPlanned g rows (length g) t)
+module _ (g : Graph) (rows : SolutionRows) (t : Layout) (game : IsGame g) (size : length rows ≡ length g) (a : HoldsFirstRows g rows (length g) t)
     (wrong : NoneHas (HasBadChoice g rows)) where
-  pub planned_is_kept : IsKept g t.inside t.chosen t.choices t.bad
-  planned_is_kept = record {
+  pub first_rows_are_kept : IsKept g t.inside t.chosen t.choices t.bad
+  first_rows_are_kept = record {
     inside = a.sizes.inside;
     chosen = a.sizes.chosen;
     choices = a.sizes.choices;
@@ -136,7 +137,7 @@ module _ (g : Graph) (rows : SolutionRows) (t : Layout) (game : IsGame g) (size 
     where
       choice_below : (v : ℕ) → v < length g → (w : ℕ) → Some w ≡ own_choice g rows v → w < length g
       choice_below v l w e = elim (cases_Bool (same_player (owner_of g v) (winner_of rows v))) [
-        | inl s ↦ (let h : Some w ≡ choice_of rows v = rw s at e in elim (has_or_not (successors_of g v) w) [
+        | inl s ↦ (let h : Some w ≡ choice_of rows v = rw s at e in elim (contains_or_not (successors_of g v) w) [
           | inl m ↦ ltb-true w (length g) (edge_inside g game v w l m)
           | inr none ↦ absurd (wrong v (l, same_is (owner_of g v) (winner_of rows v) s, (w, sym h, none)))
         ])

@@ -46,7 +46,7 @@ abbrev pub IsQueued : (places queue : List ℕ) → ℕ → Type 0
 IsQueued places queue w = IsBefore places queue (length queue) w
 
 -- a search from the first vertex of the queue, which has the reached vertices; it passes over none of them
-pub record Searching (k : StrategyGraph) (levels groups : List ℕ) (top own : ℕ) (places queue : List ℕ) : Type 0 where
+pub record AreReached (k : StrategyGraph) (levels groups : List ℕ) (top own : ℕ) (places queue : List ℕ) : Type 0 where
   pub size : length places ≡ length k.game.now
   pub some : 0 < length queue
   pub below : (i : ℕ) → i < length queue → slice_index queue i < length k.game.now
@@ -74,10 +74,28 @@ pub record GoesOn (queue : List ℕ) (least : ℕ) (queue' : List ℕ) (least' :
 abbrev pub IsGroupAt : (start least place x group : ℕ) → Type 0
 IsGroupAt start least place x group = ((place < least) × (group ≡ x + 1)) ⊎ ((least ≤ place) × (group ≡ start + 1))
 
+-- what searches have shown of each vertex
+pub record LabelLists : Type 0 where
+  pub levels : List ℕ
+  pub groups : List ℕ
+
+abbrev pub label_lists : List ℕ → List ℕ → LabelLists
+label_lists levels groups = record { levels = levels; groups = groups }
+
+-- what a search has reached: the place of each vertex, the vertices by place, and the least place that was reached twice
+pub record ReachedLists : Type 0 where
+  pub places : List ℕ
+  pub queue : List ℕ
+  pub least : ℕ
+
+abbrev pub reached_lists : List ℕ → List ℕ → ℕ → ReachedLists
+reached_lists places queue least = record { places = places; queue = queue; least = least }
+
 -- the vertices at the first n places have the level, and the search's group, or before the least place their own
-pub record AreNoted (levels groups places queue : List ℕ) (level start least n : ℕ) (levels' groups' : List ℕ) : Type 0 where
-  pub levels_size : length levels' ≡ length levels
-  pub groups_size : length groups' ≡ length groups
-  pub inside : (x : ℕ) → IsBefore places queue n x → slice_index levels' x ≡ level
-  pub group : (x : ℕ) → IsBefore places queue n x → IsGroupAt start least (slice_index places x) x (slice_index groups' x)
-  pub outside : (x : ℕ) → (IsBefore places queue n x → ⊥) → (slice_index levels' x ≡ slice_index levels x) × (slice_index groups' x ≡ slice_index groups x)
+pub record AreNoted (old : LabelLists) (r : ReachedLists) (level start n : ℕ) (new : LabelLists) : Type 0 where
+  pub levels_size : length new.levels ≡ length old.levels
+  pub groups_size : length new.groups ≡ length old.groups
+  pub inside : (x : ℕ) → IsBefore r.places r.queue n x → slice_index new.levels x ≡ level
+  pub group : (x : ℕ) → IsBefore r.places r.queue n x → IsGroupAt start r.least (slice_index r.places x) x (slice_index new.groups x)
+  pub outside : (x : ℕ) → (IsBefore r.places r.queue n x → ⊥)
+      → (slice_index new.levels x ≡ slice_index old.levels x) × (slice_index new.groups x ≡ slice_index old.groups x)

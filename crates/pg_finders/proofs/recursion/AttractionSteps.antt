@@ -3,7 +3,7 @@ use Rattle.pg_finders.proofs.Common.{◌≡◌, ◌≢◌, ℕ, suc, ◌<◌, tr
 use Rattle.pg_finders.proofs.Common.{arith, append_assoc, rules, Some, ◌==◌, and-true, eq-eqb, or_cases, cases_Bool, or_left, or_right, or_parts}
 use Rattle.pg_finders.proofs.Common.{false_from_ne_true, append-nil, take-append-le, take_all, Player, opponent, Graph, HasEdge, owner_of, VertexSet, In, union}
 use Rattle.pg_finders.proofs.Common.{without, other_from_not, IsAttractedRow, Plan, listed, Once, winners_of, choices_of, SameAt, IsAttracted, place, Before}
-use Rattle.pg_finders.proofs.Common.{IsGrown, AttractsNoActive}
+use Rattle.pg_finders.proofs.Common.{HasTaken, AttractsNoActive}
 use Rattle.std.proofs.Math.Bool.{or-false}
 use Rattle.std.proofs.lemmas.Bool.{and_left, and_right, not_from_true}
 use Rattle.pg_game.proofs.Players.{not_own}
@@ -34,7 +34,7 @@ before_prefix : (xs ys : List ℕ) (v w : ℕ) → In (listed xs) v → Before x
 before_prefix xs ys v w i b = search (rules, in_prefix, place_prefix)
 
 -- nothing is taken
-pub grown_none : {g : Graph} {p : Player} {A : VertexSet} {plan : Plan} {prefix : List ℕ} → IsGrown g p A plan prefix A plan prefix
+pub grown_none : {g : Graph} {p : Player} {A : VertexSet} {plan : Plan} {prefix : List ℕ} → HasTaken g p A plan prefix A plan prefix
 grown_none {A = A} {prefix = prefix} = search (rules, append-nil, and-true)
 
 -- the player takes an active vertex, by a row that leads to what is listed
@@ -49,7 +49,7 @@ module _ {g : Graph} {p : Player} {A A' : VertexSet} {old new : Plan} {prefix : 
   earlier : (w : ℕ) → In (listed prefix) w → Before (prefix ++ v ∷ []) v w
   earlier w i = search (rules, place_new, h.leads.fresh, place_prefix, place_below, in_prefix)
 
-  pub grown_one : IsGrown g p A old prefix A' new (prefix ++ v ∷ [])
+  pub grown_one : HasTaken g p A old prefix A' new (prefix ++ v ∷ [])
   grown_one = record {
     more = v ∷ [];
     list_is = refl;
@@ -65,7 +65,7 @@ module _ {g : Graph} {p : Player} {A A' : VertexSet} {old new : Plan} {prefix : 
   }
 
 -- what a step says of the lists and the active vertices
-module _ {g : Graph} {p : Player} {A A' : VertexSet} {old new : Plan} {prefix list : List ℕ} (h : IsGrown g p A old prefix A' new list) where
+module _ {g : Graph} {p : Player} {A A' : VertexSet} {old new : Plan} {prefix list : List ℕ} (h : HasTaken g p A old prefix A' new list) where
   pub grown_cases : (v : ℕ) → In (listed list) v → In (listed prefix) v ⊎ In (listed h.more) v
   grown_cases v i = prefix_or_rest prefix h.more v (subst (λ xs. In (listed xs) v) h.list_is i)
 
@@ -126,15 +126,15 @@ module _ {g : Graph} {p : Player} {A A' : VertexSet} {old new : Plan} {prefix li
       in_more v i n = elim (grown_cases v i) [ inl y ↦ absurd (no_both y n) | inr y ↦ y ]
 
 -- one step after another
-module _ {g : Graph} {p : Player} {A A1 A2 : VertexSet} {old mid new : Plan} {prefix list1 list2 : List ℕ} (a : IsGrown g p A old prefix A1 mid list1)
-    (b : IsGrown g p A1 mid list1 A2 new list2) where
+module _ {g : Graph} {p : Player} {A A1 A2 : VertexSet} {old mid new : Plan} {prefix list1 list2 : List ℕ} (a : HasTaken g p A old prefix A1 mid list1)
+    (b : HasTaken g p A1 mid list1 A2 new list2) where
   later : (v w : ℕ) → In (listed a.more) v → Before list1 v w → Before list2 v w
   later v w i h = subst (λ xs. Before xs v w) (sym b.list_is) (before_prefix list1 b.more v w (grown_more a v i) h)
 
   which : (v : ℕ) → In (listed (a.more ++ b.more)) v → In (listed a.more) v ⊎ In (listed b.more) v
   which v i = prefix_or_rest a.more b.more v i
 
-  pub grown_then : IsGrown g p A old prefix A2 new list2
+  pub grown_then : HasTaken g p A old prefix A2 new list2
   grown_then = record {
     more = a.more ++ b.more;
     list_is = b.list_is ∙ (ap (λ xs. xs ++ b.more) a.list_is ∙ append_assoc prefix a.more b.more);

@@ -1,7 +1,7 @@
 -- What a subgame owes where it is begun in place.
 use Rattle.pg_finders.proofs.Common.{fun_ext, ◌≡◌, ◌≢◌, ℕ, ◌≤◌, Bool, true, false, ◌&&◌, ◌||◌, not, inl, inr, List, refl, sym, ◌∙◌, ap, subst, arith, or_left}
 use Rattle.pg_finders.proofs.Common.{false_from_ne_true, Player, of_parity, Graph, priority_of, VertexSet, In, Within, members, union, without, IsSubgame}
-use Rattle.pg_finders.proofs.Common.{Plan, listed, winners_of, choices_of, SameAt, SameOutside, IsGiven, IsBegun, IsAttracted, place, IsGrown, AttractsNoActive}
+use Rattle.pg_finders.proofs.Common.{Plan, listed, winners_of, choices_of, SameAt, SameOutside, IsGiven, IsBegun, IsAttracted, place, HasTaken, AttractsNoActive}
 use Rattle.pg_finders.proofs.Sets.{no_both, only}
 use Rattle.pg_finders.proofs.Masks.{order}
 use Rattle.pg_finders.proofs.SolvedSubgames.{IsAttracted-subst}
@@ -64,7 +64,7 @@ pub record BeginsInPlace (g : Graph) (p : Player) (A B L : VertexSet) (before gi
   pub above : (t v : ℕ) → In (listed target) t → In A v → priority_of g t ≤ priority_of g v → of_parity (priority_of g v) ≡ p
   pub target_apart : (v : ℕ) → In (listed target) v → B v ≡ false
   pub same : SameOutside A before given
-  pub grown : IsGrown g p B given target L now list
+  pub grown : HasTaken g p B given target L now list
   pub done : AttractsNoActive g p (union B (listed target)) (listed list) L
   pub apart : (v : ℕ) → In (listed list) v → L v ≡ false
   pub some : (v : ℕ) × In (listed target) v

@@ -5,7 +5,7 @@ use Rattle.pg_finders.proofs.Common.{map, refl, sym, ◌∙◌, ap, subst, arith
 use Rattle.pg_finders.proofs.Common.{and_parts, cases_Bool, or_cases, or_left, or_right, or_parts, false_from_ne_true, Player, opponent, same_player, Graph}
 use Rattle.pg_finders.proofs.Common.{HasEdge, owner_of, VertexSet, In, members, union, without, IsSubgame, own_or_other, same_is, Plan, Frame, listed, Once}
 use Rattle.pg_finders.proofs.Common.{Apart, SettledLists, settled_of, winners_of, choices_of, size, IsBegun, IsSolvedInside, IsAttracted, won_inside, active_of}
-use Rattle.pg_finders.proofs.Common.{place, IsKnown, IsGrown, AttractsNoActive, count_at, prefix, level_at, IsUnderWay, IsRunning, how_many_gone, steps_left}
+use Rattle.pg_finders.proofs.Common.{place, IsKnown, HasTaken, AttractsNoActive, count_at, prefix, level_at, AreOpenLevels, IsSolverState, how_many_gone, steps_left}
 use Rattle.pg_finders.proofs.Common.{work, steps}
 use Rattle.std.proofs.Common.{length-drop}
 use Rattle.pg_finders.specs.declared.recursion.Solver.{Solver}
@@ -19,22 +19,22 @@ use Rattle.pg_finders.proofs.recursion.RepeatedAttraction.{won_parts, won_from, 
 use Rattle.pg_finders.proofs.recursion.BegunSubgame.{rest_active}
 use Rattle.pg_finders.proofs.recursion.SharedLists.{gone_settled, part_of}
 use Rattle.pg_finders.proofs.recursion.LoopSteps.{Finishes, lists_fit, stop_fits, last_waits, last_begun, since_inside, since_left, aside_inside, inside_cases}
-use Rattle.pg_finders.proofs.recursion.LoopSteps.{left_cases, left_solved, won_since, stops_kept, finish_more, under_way_finish}
+use Rattle.pg_finders.proofs.recursion.LoopSteps.{left_cases, left_solved, won_since, stops_kept, finish_more, open_levels_finish}
 use Rattle.pg_finders.proofs.recursion.StepBounds.{work_finish}
 
 -- the last subgame that waits is at its end: nothing of it is active
 pub record IsAtEnd (g : Graph) (inside : List Bool) (x : Solver) (frames : List Frame) (f : Frame) : Type 0 where
-  pub running : IsRunning g inside x (frames ++ f ∷ [])
+  pub running : IsSolverState g inside x (frames ++ f ∷ [])
   pub none : (v : ℕ) → active_of x.subgame v ≡ false
 
-pub at_end : {g : Graph} {inside : List Bool} {x : Solver} (frames : List Frame) (f : Frame) → IsRunning g inside x (frames ++ f ∷ [])
+pub at_end : {g : Graph} {inside : List Bool} {x : Solver} (frames : List Frame) (f : Frame) → IsSolverState g inside x (frames ++ f ∷ [])
     → ((v : ℕ) → active_of x.subgame v ≡ false) → IsAtEnd g inside x frames f
 at_end frames f running none = record { running = running; none = none }
 
 -- it is finished: the others that wait are as they were, and fewer steps are left
 pub record IsFinished (g : Graph) (inside : List Bool) (x : Solver) (frames : List Frame) (f : Frame) (active : VertexSet) (settled : SettledLists)
     (new : Plan) : Type 0 where
-  pub under_way : IsUnderWay g (members inside) active settled (take f.set_aside x.set_aside.items) frames (winners_of new) (choices_of new)
+  pub open_levels : AreOpenLevels g (members inside) active settled (take f.set_aside x.set_aside.items) frames (winners_of new) (choices_of new)
   pub kept : map (level_at (members inside) settled (take f.set_aside x.set_aside.items)) frames
       ≡ map (level_at (members inside) (settled_of x.settled) x.set_aside.items) frames
   pub fewer : steps (size inside - how_many_gone settled (take f.set_aside x.set_aside.items)) + steps_left (size inside) frames < work (size inside) x
@@ -43,7 +43,7 @@ pub record IsFinished (g : Graph) (inside : List Bool) (x : Solver) (frames : Li
 -- what the opponent attracts to what he won is settled for him, C is active, and what the player won since is settled no more
 pub record Retakes (g : Graph) (f : Frame) (A : VertexSet) (old : Plan) (settled settled' : SettledLists) (C : VertexSet) (new : Plan) : Type 0 where
   pub some : length (settled (opponent f.player)) ≢ count_at f (opponent f.player)
-  pub grown : IsGrown g (opponent f.player) A old (settled (opponent f.player)) C new (settled' (opponent f.player))
+  pub grown : HasTaken g (opponent f.player) A old (settled (opponent f.player)) C new (settled' (opponent f.player))
   pub done : AttractsNoActive g (opponent f.player) (union A (listed (settled (opponent f.player)))) (listed (settled' (opponent f.player))) C
   pub once : Once (settled' (opponent f.player))
   pub apart : (v : ℕ) → In (listed (settled' (opponent f.player))) v → C v ≡ false
@@ -83,8 +83,8 @@ module _ {g : Graph} {inside : List Bool} {x : Solver} {frames : List Frame} {f 
   abbrev B : List ℕ
   B = drop f.set_aside set_aside
 
-  run : IsUnderWay g U X settled set_aside (frames ++ f ∷ []) (winners_of old) (choices_of old)
-  run = h.running.under_way
+  run : AreOpenLevels g U X settled set_aside (frames ++ f ∷ []) (winners_of old) (choices_of old)
+  run = h.running.open_levels
 
   begun : IsBegun g I L p (winners_of old) (choices_of old)
   begun = last_begun frames f run
@@ -130,9 +130,9 @@ module _ {g : Graph} {inside : List Bool} {x : Solver} {frames : List Frame} {f 
       → Finishes g p I active (prefix f settled) settled' own other (winners_of old) (winners_of new) (choices_of old) (choices_of new)
       → 0 < length own + length other → IsFinished g inside x frames f active settled' new
   finished {settled' = settled'} new t l =
-      let now = under_way_finish frames f run t in
+      let now = open_levels_finish frames f run t in
       record {
-        under_way = now;
+        open_levels = now;
         kept = stops_kept frames f run t;
         fewer = work_finish (size inside) (how_many_gone settled set_aside) (how_many_gone settled' (take f.set_aside set_aside)) frames f (finish_more
             frames f run t l)
@@ -253,8 +253,8 @@ module _ {g : Graph} {inside : List Bool} {x : Solver} {frames : List Frame} {f 
 
     -- What the opponent attracts to it is settled.
     module _ {settled' : SettledLists} {C : VertexSet} {new : Plan} (t : Retakes g f A old settled settled' C new) where
-      grown_cut : IsGrown g q A old (prefix f settled q ++ since q) C new (settled' q)
-      grown_cut = subst (λ ys. IsGrown g q A old ys C new (settled' q)) (cut q) t.grown
+      grown_cut : HasTaken g q A old (prefix f settled q ++ since q) C new (settled' q)
+      grown_cut = subst (λ ys. HasTaken g q A old ys C new (settled' q)) (cut q) t.grown
 
       abbrev lost : List ℕ
       lost = since q ++ grown_cut.more
@@ -268,7 +268,7 @@ module _ {g : Graph} {inside : List Bool} {x : Solver} {frames : List Frame} {f 
       other : settled' q ≡ prefix f settled q ++ lost
       other = list_behind (prefix f settled q) (since q) grown_cut prefix_inactive prefix_apart
 
-      grown : IsGrown g q A old (since q) C new lost
+      grown : HasTaken g q A old (since q) C new lost
       grown = grown_behind (prefix f settled q) (since q) grown_cut prefix_inactive prefix_apart reopened_away
 
       done : AttractsNoActive g q (union A (listed (since q))) (listed lost) C

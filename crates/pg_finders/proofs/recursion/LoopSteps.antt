@@ -3,8 +3,8 @@ use Rattle.pg_finders.proofs.Common.{◌≡◌, ℕ, ◌+◌, ◌<◌, ◌≤◌
 use Rattle.pg_finders.proofs.Common.{refl, sym, ◌∙◌, ap, subst, arith, length-append, rules, fun_ext, ◌==◌, eqb-true, or_cases, and_parts, and_from}
 use Rattle.pg_finders.proofs.Common.{false_from_ne_true, and-true, map-append, take-append-le, take_all, common_steps, Player, Even, Odd, opponent, Graph}
 use Rattle.pg_finders.proofs.Common.{VertexSet, In, members, no_vertices, Choices, same_is, is_same, Frame, Winners, IsSolvedInside, IsSolvedTo, IsBegun}
-use Rattle.pg_finders.proofs.Common.{won_inside, Level, Waits, listed, Once, Apart, SettledLists, size, gone, part, count_at, prefix, level_at, Linked}
-use Rattle.pg_finders.proofs.Common.{AreApart, IsUnderWay, how_many_gone}
+use Rattle.pg_finders.proofs.Common.{won_inside, Level, AreLevels, listed, Once, Apart, SettledLists, size, gone, part, count_at, prefix, level_at, Linked}
+use Rattle.pg_finders.proofs.Common.{AreApart, AreOpenLevels, how_many_gone}
 use Rattle.std.proofs.Common.{length-take}
 use Rattle.std.proofs.Math.Bool.{or_assoc}
 use Rattle.pg_finders.proofs.Sets.{minus_both, no_both, equal_from, unless}
@@ -37,7 +37,7 @@ lists_fit {settled} {set_aside} mask a inside =
 
 -- where the lists are that long, nothing is active
 pub none_active : {g : Graph} (mask : List Bool) {active : VertexSet} {settled : SettledLists} {set_aside : List ℕ} {frames : List Frame} {won : Winners}
-    {s : Choices} → IsUnderWay g (members mask) active settled set_aside frames won s → how_many_gone settled set_aside ≡ size mask → (v : ℕ) → active v ≡ false
+    {s : Choices} → AreOpenLevels g (members mask) active settled set_aside frames won s → how_many_gone settled set_aside ≡ size mask → (v : ℕ) → active v ≡ false
 none_active mask {active} {settled} {set_aside} h e v = false_from_ne_true (active v) (λ i.
     (let c = part_of (members mask) settled set_aside v (sym (h.active_is v) ∙ i) in
     let fresh : listed (all_gone settled set_aside) v ≡ false = listed-append (settled Even ++ settled Odd) set_aside v
@@ -52,7 +52,7 @@ none_active mask {active} {settled} {set_aside} h e v = false_from_ne_true (acti
 -- The active part is begun: the vertices that are added to those set aside are its attractor, and the others stay active.
 pub record Begins (g : Graph) (U active active' : VertexSet) (settled : SettledLists) (set_aside added : List ℕ) (frames : List Frame) (f : Frame)
     (won won' : Winners) (s s' : Choices) : Type 0 where
-  pub under_way : IsUnderWay g U active settled set_aside frames won s
+  pub open_levels : AreOpenLevels g U active settled set_aside frames won s
   pub within : (v : ℕ) → In (listed added) v → In active v
   pub once : Once added
   pub left : (v : ℕ) → active' v ≡ (active v && not (listed added v))
@@ -65,12 +65,12 @@ pub record Begins (g : Graph) (U active active' : VertexSet) (settled : SettledL
 module _ {g : Graph} {U active active' : VertexSet} {settled : SettledLists} {set_aside added : List ℕ} {frames : List Frame} {f : Frame} {won won' : Winners}
     {s s' : Choices} (b : Begins g U active active' settled set_aside added frames f won won' s s') where
   out_of_lists : (v : ℕ) → In active v → In U v × ((p : Player) → listed (settled p) v ≡ false) × (listed set_aside v ≡ false)
-  out_of_lists v i = part_of U settled set_aside v (sym (b.under_way.active_is v) ∙ i)
+  out_of_lists v i = part_of U settled set_aside v (sym (b.open_levels.active_is v) ∙ i)
 
   active_now : (v : ℕ) → active' v ≡ part U settled (set_aside ++ added) v
   active_now v =
       let done = listed (settled Even) v || listed (settled Odd) v in
-      b.left v ∙ (ap (λ x. x && not (listed added v)) (b.under_way.active_is v)
+      b.left v ∙ (ap (λ x. x && not (listed added v)) (b.open_levels.active_is v)
       ∙ (minus_both (U v) (done || listed set_aside v) (listed added v)
       ∙ ap (λ x. U v && not x) (or_assoc done (listed set_aside v) (listed added v) ∙ ap (λ x. done || x) (sym (listed-append set_aside added v)))))
 
@@ -83,14 +83,14 @@ module _ {g : Graph} {U active active' : VertexSet} {settled : SettledLists} {se
       take-append-le f.set_aside set_aside added (omega (arith, b.from)) ∙ take_all f.set_aside set_aside (omega (arith, b.from)) in
       let whole : take f.upto (set_aside ++ added) ≡ set_aside ++ added = take_all f.upto (set_aside ++ added) (omega (arith, b.upto)) in
       let in_all : part U (prefix f settled) (take f.set_aside (set_aside ++ added)) ≡ active =
-      ap (λ t. part U t (take f.set_aside (set_aside ++ added))) prefix_now ∙ (ap (part U settled) begins ∙ fun_ext (λ v. sym (b.under_way.active_is v))) in
+      ap (λ t. part U t (take f.set_aside (set_aside ++ added))) prefix_now ∙ (ap (part U settled) begins ∙ fun_ext (λ v. sym (b.open_levels.active_is v))) in
       let in_left : part U (prefix f settled) (take f.upto (set_aside ++ added)) ≡ active' =
       ap (λ t. part U t (take f.upto (set_aside ++ added))) prefix_now ∙ (ap (part U settled) whole ∙ fun_ext (λ v. sym (active_now v))) in
       ap (λ X. record { inside = X; left = part U (prefix f settled) (take f.upto (set_aside ++ added)); player = f.player }) in_all
       ∙ ap (λ X. record { inside = active; left = X; player = f.player }) in_left
 
   pub stops_now : map (level_at U settled (set_aside ++ added)) frames ≡ map (level_at U settled set_aside) frames
-  stops_now = search (rules, levels_same, b.under_way.linked, take-append-le)
+  stops_now = search (rules, levels_same, b.open_levels.linked, take-append-le)
 
   pub inside_now : (level_at U settled (set_aside ++ added) f).inside ≡ active
   inside_now = ap (λ (l : Level). l.inside) level_now
@@ -99,33 +99,33 @@ module _ {g : Graph} {U active active' : VertexSet} {settled : SettledLists} {se
       ≡ map (level_at U settled set_aside) frames ++ record { inside = active; left = active'; player = f.player } ∷ []
   levels_now = search (rules, map-append, stops_now, level_now)
 
-  pub under_way_begin : IsUnderWay g U active' settled (set_aside ++ added) (frames ++ f ∷ []) won' s'
-  under_way_begin = record {
+  pub open_levels_begin : AreOpenLevels g U active' settled (set_aside ++ added) (frames ++ f ∷ []) won' s'
+  open_levels_begin = record {
     linked = subst (λ n. Linked (λ p. 0) (λ p. length (settled p)) 0 (frames ++ f ∷ []) n) b.upto
-        (linked_push (λ p. 0) (λ p. length (settled p)) 0 frames (length set_aside) f b.under_way.linked b.from
+        (linked_push (λ p. 0) (λ p. length (settled p)) 0 frames (length set_aside) f b.open_levels.linked b.from
         (omega (arith, b.from, b.upto, length-append set_aside added)) b.counts);
     apart = record {
-      settled_once = b.under_way.apart.settled_once;
-      aside_once = once_join set_aside added b.under_way.apart.aside_once b.once (apart_from set_aside added (λ v i j. no_both i (out_of_lists v (b.within
+      settled_once = b.open_levels.apart.settled_once;
+      aside_once = once_join set_aside added b.open_levels.apart.aside_once b.once (apart_from set_aside added (λ v i j. no_both i (out_of_lists v (b.within
           v j)).2));
-      players = b.under_way.apart.players;
+      players = b.open_levels.apart.players;
       aside_apart = λ p. apart_from (settled p) (set_aside ++ added) (λ v i j. elim (prefix_or_rest set_aside added v j) [
-        | inl y ↦ no_both y (b.under_way.apart.aside_apart p v i)
+        | inl y ↦ no_both y (b.open_levels.apart.aside_apart p v i)
         | inr y ↦ no_both i ((out_of_lists v (b.within v y)).1 p)
       ]);
     };
     listed_inside = λ v i. elim (gone_cases settled (set_aside ++ added) v i) [
-      | inl (p, y) ↦ b.under_way.listed_inside v (gone_settled settled set_aside p v y)
+      | inl (p, y) ↦ b.open_levels.listed_inside v (gone_settled settled set_aside p v y)
       | inr y ↦ elim (prefix_or_rest set_aside added v y) [
-        | inl x ↦ b.under_way.listed_inside v (gone_aside settled set_aside v x)
+        | inl x ↦ b.open_levels.listed_inside v (gone_aside settled set_aside v x)
         | inr x ↦ (out_of_lists v (b.within v x)).0
       ]
     ];
     active_is = active_now;
-    his = λ p v i. (b.same v (false_from_ne_true (active v) (λ y. no_both i ((out_of_lists v y).1 p)))).0 ∙ b.under_way.his p v i;
-    waits = subst (λ levels. Waits g U levels active' won' s') (sym levels_now)
+    his = λ p v i. (b.same v (false_from_ne_true (active v) (λ y. no_both i ((out_of_lists v y).1 p)))).0 ∙ b.open_levels.his p v i;
+    waits = subst (λ levels. AreLevels g U levels active' won' s') (sym levels_now)
         (waits_push g U (map (level_at U settled set_aside) frames) (record { inside = active; left = active'; player = f.player }) active' won' s'
-        (waits_on g U (map (level_at U settled set_aside) frames) active active won won' s s' b.under_way.waits b.same (solved_none)) b.begun (solved_none));
+        (waits_on g U (map (level_at U settled set_aside) frames) active active won won' s s' b.open_levels.waits b.same (solved_none)) b.begun (solved_none));
   }
 
 -- What is taken of a subgame for its player and for the opponent, each after the prefix of his list; the others of it are active.
@@ -146,7 +146,7 @@ pub record Finishes (g : Graph) (p : Player) (I active : VertexSet) (before sett
 
 -- The last subgame that waits.
 module _ {g : Graph} {U active : VertexSet} {settled : SettledLists} {set_aside : List ℕ} (frames : List Frame) (f : Frame) {won : Winners} {s : Choices}
-    (h : IsUnderWay g U active settled set_aside (frames ++ f ∷ []) won s) where
+    (h : AreOpenLevels g U active settled set_aside (frames ++ f ∷ []) won s) where
   abbrev last : Level
   last = level_at U settled set_aside f
 
@@ -157,12 +157,12 @@ module _ {g : Graph} {U active : VertexSet} {settled : SettledLists} {set_aside 
   pub stop_fits : ((p : Player) → count_at f p ≤ length (settled p)) × (f.set_aside ≤ length set_aside)
   stop_fits = (links.2, omega (arith, links.1, links.3))
 
-  popped : Waits g U (map (level_at U settled set_aside) frames) last.inside won s × IsBegun g last.inside last.left f.player won s
+  popped : AreLevels g U (map (level_at U settled set_aside) frames) last.inside won s × IsBegun g last.inside last.left f.player won s
       × IsSolvedTo g last.left active won s
   popped = waits_pop g U (map (level_at U settled set_aside) frames) last active won s
-      (subst (λ levels. Waits g U levels active won s) (map-append (level_at U settled set_aside) frames (f ∷ [])) h.waits)
+      (subst (λ levels. AreLevels g U levels active won s) (map-append (level_at U settled set_aside) frames (f ∷ [])) h.waits)
 
-  pub last_waits : Waits g U (map (level_at U settled set_aside) frames) last.inside won s
+  pub last_waits : AreLevels g U (map (level_at U settled set_aside) frames) last.inside won s
   last_waits = popped.0
 
   pub last_begun : IsBegun g last.inside last.left f.player won s
@@ -303,8 +303,8 @@ module _ {g : Graph} {U active : VertexSet} {settled : SettledLists} {set_aside 
     pub finish_inside : (v : ℕ) → In (gone settled' A) v → In U v
     finish_inside v i = search (rules, gone_cases, parts, h.listed_inside, gone_settled, in_take, inside_parts, within, gone_aside, f.set_aside)
 
-    pub under_way_finish : IsUnderWay g U active' settled' A frames won' s'
-    under_way_finish = record {
+    pub open_levels_finish : AreOpenLevels g U active' settled' A frames won' s'
+    open_levels_finish = record {
       linked = subst (λ n. Linked (λ p. 0) (λ p. length (settled' p)) 0 frames n) (sym length_aside)
           (linked_more (λ p. 0) (count_at f) (λ p. length (settled' p)) 0 frames f.set_aside
           (λ p. (let a = ap length (is p) in let b = counts p in omega (arith, a, b, length-append (prefix f settled p) (taken p)))) links.0);
@@ -315,7 +315,7 @@ module _ {g : Graph} {U active : VertexSet} {settled : SettledLists} {set_aside 
         | inl x ↦ (t.same v (not_inside p v x)).0 ∙ h.his p v (in_take (count_at f p) (settled p) v x)
         | inr x ↦ (picked (λ p xs. (v : ℕ) → In (listed xs) v → won' v ≡ p) f.player own other t.own_won t.other_won) p v x
       ];
-      waits = subst (λ levels. Waits g U levels active' won' s') (sym stops_kept)
+      waits = subst (λ levels. AreLevels g U levels active' won' s') (sym stops_kept)
           (waits_on g U (map (level_at U settled set_aside) frames) last.inside active' won won' s s' popped.0 t.same t.solved);
     }
 
@@ -323,15 +323,15 @@ module _ {g : Graph} {U active : VertexSet} {settled : SettledLists} {set_aside 
     finish_more l = search (rules, f.even, f.odd, f.player, length_aside, is, length-append, counts)
 
 -- where nothing is active and nothing waits, all is solved
-pub under_way_done : {g : Graph} {U active : VertexSet} {settled : SettledLists} {set_aside : List ℕ} {frames : List Frame} {won : Winners} {s : Choices}
-    → IsUnderWay g U active settled set_aside frames won s → frames ≡ [] → ((v : ℕ) → active v ≡ no_vertices v) → IsSolvedInside g U won s
-under_way_done {g} {U} {active} {settled} {set_aside} {frames} {won} {s} h e none =
-    solved_whole (IsSolvedTo-subst none (subst (λ fs. Waits g U (map (level_at U settled set_aside) fs) active won s) e h.waits))
+pub open_levels_done : {g : Graph} {U active : VertexSet} {settled : SettledLists} {set_aside : List ℕ} {frames : List Frame} {won : Winners} {s : Choices}
+    → AreOpenLevels g U active settled set_aside frames won s → frames ≡ [] → ((v : ℕ) → active v ≡ no_vertices v) → IsSolvedInside g U won s
+open_levels_done {g} {U} {active} {settled} {set_aside} {frames} {won} {s} h e none =
+    solved_whole (IsSolvedTo-subst none (subst (λ fs. AreLevels g U (map (level_at U settled set_aside) fs) active won s) e h.waits))
 
 -- where nothing is listed, all of the set is active
-pub under_way_start : {g : Graph} {U active : VertexSet} {settled : SettledLists} {set_aside : List ℕ} {frames : List Frame} {won : Winners} {s : Choices}
-    → ((v : ℕ) → active v ≡ U v) → ((p : Player) → settled p ≡ []) → set_aside ≡ [] → frames ≡ [] → IsUnderWay g U active settled set_aside frames won s
-under_way_start {g} {U} {active} {settled} {set_aside} {frames} {won} {s} e a b c = record {
+pub open_levels_start : {g : Graph} {U active : VertexSet} {settled : SettledLists} {set_aside : List ℕ} {frames : List Frame} {won : Winners} {s : Choices}
+    → ((v : ℕ) → active v ≡ U v) → ((p : Player) → settled p ≡ []) → set_aside ≡ [] → frames ≡ [] → AreOpenLevels g U active settled set_aside frames won s
+open_levels_start {g} {U} {active} {settled} {set_aside} {frames} {won} {s} e a b c = record {
   linked = rw (c, b) (λ p. (let q = a p in omega arith), refl);
   apart = record {
     settled_once = λ p. subst Once (sym (a p)) tt;

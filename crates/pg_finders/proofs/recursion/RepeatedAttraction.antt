@@ -3,7 +3,7 @@
 use Rattle.pg_finders.proofs.Common.{◌≡◌, ℕ, suc, ◌+◌, false, inl, inr, List, [], ◌∷◌, ◌++◌, length, All, refl, sym, ◌∙◌, subst, arith, append_assoc, rules}
 use Rattle.pg_finders.proofs.Common.{◌==◌, eqb-true, cases_Bool, or_cases, and_parts, and_from, or_parts, or_left, or_right, false_from_ne_true, Player}
 use Rattle.pg_finders.proofs.Common.{same_player, Graph, HasEdge, owner_of, VertexSet, In, union, without, same_is, is_same, Plan, listed, Apart, winners_of}
-use Rattle.pg_finders.proofs.Common.{place, Before, won_of, IsKnown, IsGrown, IsTested, AttractsNoActive}
+use Rattle.pg_finders.proofs.Common.{place, Before, won_of, IsKnown, HasTaken, IsTested, AttractsNoActive}
 use Rattle.pg_finders.proofs.Sets.{not_both, no_both, only, minus, unless}
 use Rattle.pg_finders.proofs.recursion.ListsAsSets.{in_rest, prefix_or_rest}
 use Rattle.pg_finders.proofs.recursion.AttractionSteps.{grown_cases, grown_prefix, grown_more, grown_active, grown_fewer, grown_taken}
@@ -17,7 +17,7 @@ won_from U A plan p v u n e = and_from (without U A v) (same_player (winners_of 
 
 -- what was known stays so while the player takes vertices
 pub known_grown : {g : Graph} {U : VertexSet} {p : Player} {A A' : VertexSet} {old new : Plan} {prefix list : List ℕ} → IsKnown g U p A old prefix
-    → IsGrown g p A old prefix A' new list → IsKnown g U p A' new list
+    → HasTaken g p A old prefix A' new list → IsKnown g U p A' new list
 known_grown {U = U} {p = p} {A = A} {A' = A'} {old = old} {new = new} k h = record {
   inside = λ v i. k.inside v (grown_active h v i);
   won = λ v i. elim (grown_cases h v i) [
@@ -52,7 +52,7 @@ done_equal e d = search (rules, d.own, d.other)
 
 -- the given vertices are tested, and nothing attracts the others: so the prefix is done
 pub tested_done : {g : Graph} {p : Player} {A A' : VertexSet} {old new : Plan} {prefix list : List ℕ} (vertices : List ℕ)
-    → IsGrown g p A old prefix A' new list → ((v : ℕ) → In (listed prefix) v → A v ≡ false)
+    → HasTaken g p A old prefix A' new list → ((v : ℕ) → In (listed prefix) v → A v ≡ false)
     → AttractsNoActive g p (union A (listed prefix)) (listed prefix) (without A (listed vertices))
     → ((v : ℕ) → In (listed vertices) v → IsTested g p (listed prefix) A A' v) → AttractsNoActive g p (union A (listed prefix)) (listed prefix) A'
 tested_done {g = g} {p = p} {A = A} {A' = A'} {prefix = prefix} vertices h apart rest tested = record {
@@ -86,7 +86,7 @@ before_rest : (xs ys : List ℕ) (v w : ℕ) → listed xs v ≡ false → liste
 before_rest xs ys v w n m b = search (rules, place_rest, prefix_or_rest, no_both)
 
 module _ {g : Graph} {p : Player} {A A' : VertexSet} {old new : Plan} (prefix xs : List ℕ) {list : List ℕ}
-    (h : IsGrown g p A old (prefix ++ xs) A' new list) (inactive : (v : ℕ) → In (listed prefix) v → A v ≡ false) (apart : Apart prefix xs) where
+    (h : HasTaken g p A old (prefix ++ xs) A' new list) (inactive : (v : ℕ) → In (listed prefix) v → A v ≡ false) (apart : Apart prefix xs) where
   pub list_behind : list ≡ prefix ++ (xs ++ h.more)
   list_behind = h.list_is ∙ append_assoc prefix xs h.more
 
@@ -94,7 +94,7 @@ module _ {g : Graph} {p : Player} {A A' : VertexSet} {old new : Plan} (prefix xs
   active_behind v i = false_from_ne_true (listed prefix v) (λ y. no_both i (inactive v y))
 
   -- where the player's edges don't lead to the prefix, he took in the subgame what he took
-  pub grown_behind : ((v w : ℕ) → In A v → owner_of g v ≡ p → HasEdge g v w → In (listed prefix) w → ⊥) → IsGrown g p A old xs A' new (xs ++ h.more)
+  pub grown_behind : ((v w : ℕ) → In A v → owner_of g v ≡ p → HasEdge g v w → In (listed prefix) w → ⊥) → HasTaken g p A old xs A' new (xs ++ h.more)
   grown_behind away = record {
     more = h.more;
     list_is = refl;

@@ -1,7 +1,7 @@
 -- What a step of the solver owes besides the levels: the places in the order by priority, and the steps that are left.
 use Rattle.pg_finders.proofs.Common.{◌≡◌, ℕ, ◌+◌, ◌-◌, ◌<◌, ◌≤◌, List, [], ◌∷◌, ◌++◌, length, map, refl, arith, rules, Frame, Level, steps, steps_after}
 use Rattle.pg_finders.proofs.Common.{AllStand, AllPlaced, steps_left}
-use Rattle.pg_finders.proofs.recursion.WaitingLevels.{steps_begin, steps_finish}
+use Rattle.pg_finders.proofs.recursion.WaitingLevels.{steps_grow, steps_begin, steps_finish}
 
 pub placed_push : (vertices : List ℕ) (level : Frame → Level) (frames : List Frame) (f : Frame) → AllPlaced vertices (map level frames) frames
     → AllStand vertices (level f).inside f.place → f.place ≤ length vertices → AllPlaced vertices (map level (frames ++ f ∷ [])) (frames ++ f ∷ [])
@@ -30,3 +30,7 @@ work_begin n m k frames f e l h =
 pub work_finish : (n m k : ℕ) (frames : List Frame) (f : Frame) → f.even + f.odd + f.set_aside < k → k ≤ n
     → steps (n - k) + steps_left n frames < steps (n - m) + steps_left n (frames ++ f ∷ [])
 work_finish n m k frames f l h = search (rules, left_push, steps_finish, f.even, f.odd, f.set_aside)
+
+-- at the start no level waits
+pub work_start : (n k m : ℕ) (frames : List Frame) → n ≤ m → frames ≡ [] → steps (n - k) + steps_left n frames ≤ steps m
+work_start n k m frames l e = rw e (let h = steps_grow (n - k) m (omega (arith, l)) in omega (arith, h))

@@ -1,7 +1,7 @@
 -- Levels that wait: one is added, one is taken away, and the last part goes on.
 use Rattle.pg_finders.proofs.Common.{◌≡◌, ℕ, zero, suc, ◌+◌, ◌<◌, ◌≤◌, false, ◌⊎◌, inl, inr, List, [], ◌∷◌, ◌++◌, sym, ◌∙◌, ap, arith, cases_Bool}
 use Rattle.pg_finders.proofs.Common.{false_from_ne_true, Player, opponent, Graph, HasEdge, owner_of, VertexSet, In, Within, without, Choices, own_or_other}
-use Rattle.pg_finders.proofs.Common.{Winners, IsSolvedTo, IsBegun, Level, Waits, steps, steps_after}
+use Rattle.pg_finders.proofs.Common.{Winners, IsSolvedTo, IsBegun, Level, AreLevels, steps, steps_after}
 use Rattle.pg_finders.proofs.Sets.{twice, no_both, only, minus}
 use Rattle.pg_finders.proofs.SolvedSubgames.{IsSolvedTo-same, solved_append, begun_same}
 
@@ -12,13 +12,13 @@ Agree R won won' s s' = (v : ℕ) → R v ≡ false → (won' v ≡ won v) × (s
 pub out_of : (U R : VertexSet) → Within R U → (v : ℕ) → U v ≡ false → R v ≡ false
 out_of U R w v u = false_from_ne_true (R v) (λ y. no_both (w v y) u)
 
-waits_within : (g : Graph) (U : VertexSet) (fs : List Level) (R : VertexSet) (won : Winners) (s : Choices) → Waits g U fs R won s → Within R U
+waits_within : (g : Graph) (U : VertexSet) (fs : List Level) (R : VertexSet) (won : Winners) (s : Choices) → AreLevels g U fs R won s → Within R U
 waits_within g U [] R won s h = h.rest
 waits_within g U (f ∷ fs) R won s h = λ v i. h.0.rest v (h.1.within v (waits_within g f.left fs R won s h.2 v i))
 
 -- the part R goes on, and nothing else changes
-pub waits_on : (g : Graph) (U : VertexSet) (fs : List Level) (R Q : VertexSet) (won won' : Winners) (s s' : Choices) → Waits g U fs R won s
-    → Agree R won won' s s' → IsSolvedTo g R Q won' s' → Waits g U fs Q won' s'
+pub waits_on : (g : Graph) (U : VertexSet) (fs : List Level) (R Q : VertexSet) (won won' : Winners) (s s' : Choices) → AreLevels g U fs R won s
+    → Agree R won won' s s' → IsSolvedTo g R Q won' s' → AreLevels g U fs Q won' s'
 waits_on g U [] R Q won won' s s' h same more = solved_append (IsSolvedTo-same same h) more
 waits_on g U (f ∷ fs) R Q won won' s s' h same more =
     let below = waits_within g f.left fs R won s h.2 in
@@ -29,14 +29,14 @@ waits_on g U (f ∷ fs) R Q won won' s s' h same more =
     )
 
 -- the part is begun
-pub waits_push : (g : Graph) (U : VertexSet) (fs : List Level) (f : Level) (R : VertexSet) (won : Winners) (s : Choices) → Waits g U fs f.inside won s
-    → IsBegun g f.inside f.left f.player won s → IsSolvedTo g f.left R won s → Waits g U (fs ++ f ∷ []) R won s
+pub waits_push : (g : Graph) (U : VertexSet) (fs : List Level) (f : Level) (R : VertexSet) (won : Winners) (s : Choices) → AreLevels g U fs f.inside won s
+    → IsBegun g f.inside f.left f.player won s → IsSolvedTo g f.left R won s → AreLevels g U (fs ++ f ∷ []) R won s
 waits_push g U [] f R won s h b more = (h, b, more)
 waits_push g U (x ∷ fs) f R won s h b more = (h.0, h.1, waits_push g x.left fs f R won s h.2 b more)
 
 -- the last level is taken away
-pub waits_pop : (g : Graph) (U : VertexSet) (fs : List Level) (f : Level) (R : VertexSet) (won : Winners) (s : Choices) → Waits g U (fs ++ f ∷ []) R won s
-    → Waits g U fs f.inside won s × IsBegun g f.inside f.left f.player won s × IsSolvedTo g f.left R won s
+pub waits_pop : (g : Graph) (U : VertexSet) (fs : List Level) (f : Level) (R : VertexSet) (won : Winners) (s : Choices) → AreLevels g U (fs ++ f ∷ []) R won s
+    → AreLevels g U fs f.inside won s × IsBegun g f.inside f.left f.player won s × IsSolvedTo g f.left R won s
 waits_pop g U [] f R won s h = h
 waits_pop g U (x ∷ fs) f R won s h = let k = waits_pop g x.left fs f R won s h.2 in ((h.0, h.1, k.0), k.1, k.2)
 
@@ -49,7 +49,7 @@ begun_away {g} {U} {L} {p} b v w l e a = elim (own_or_other (owner_of g v) p) [
 ]
 
 -- an edge from the part R to the rest leads to what the owner's opponent has
-pub waits_away : (g : Graph) (U : VertexSet) (fs : List Level) (R : VertexSet) (won : Winners) (s : Choices) → Waits g U fs R won s → (v w : ℕ) → In R v
+pub waits_away : (g : Graph) (U : VertexSet) (fs : List Level) (R : VertexSet) (won : Winners) (s : Choices) → AreLevels g U fs R won s → (v w : ℕ) → In R v
     → HasEdge g v w → In U w → R w ≡ false → won w ≡ opponent (owner_of g v)
 waits_away g U [] R won s h v w i e u n = h.away v w i e (minus u n)
 waits_away g U (f ∷ fs) R won s h v w i e u n = go (cases_Bool (f.inside w)) (cases_Bool (f.left w)) (waits_away g f.left fs R won s h.2 v w i e)

@@ -13,7 +13,7 @@ use Rattle.pg_game.specs.Region.{OnBadWalk}
 use Rattle.pg_dominion.specs.Kept.{IsKept}
 use Rattle.pg_dominion.specs.KeptEdges.{Edge, kept_row}
 use Rattle.pg_finders.proofs.Common.{member_below}
-use Rattle.pg_finders.specs.private.recursion.Planned.{HoldsSet}
+use Rattle.pg_finders.specs.private.recursion.Plans.{HoldsSet}
 use Rattle.pg_finders.specs.Finding.{HasOneSuccessor}
 use Rattle.pg_finders.proofs.Sets.{twice}
 use Rattle.pg_finders.proofs.ClosedWalks.{Among, closed_among, closed_inside, closed_begins, never_falls, greatest_reached}

@@ -1,9 +1,9 @@
 -- The invariants of the recursion.
-pub mod Planned
-pub mod Waiting
-pub mod UnderWay
+pub mod Plans
+pub mod Levels
+pub mod OpenLevels
 pub mod Listed
 pub mod Order
-pub mod Growing
+pub mod TakenVertices
 pub mod Settled
-pub mod Running
+pub mod SolverState

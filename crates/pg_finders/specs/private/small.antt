@@ -6,4 +6,4 @@ pub mod Walked
 pub mod SearchSteps
 pub mod Ends
 pub mod Small
-pub mod Searching
+pub mod InSearch

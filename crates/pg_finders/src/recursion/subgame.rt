@@ -11,11 +11,11 @@ ghost use Rattle.pg_game.specs.VertexSet.{In, Within, members, union};
 ghost use Rattle.pg_game.specs.private.VertexSet.{without};
 ghost use Rattle.pg_game.specs.Subgame.{IsSubgame};
 ghost use Rattle.pg_finders.specs.private.recursion.Listed.{listed};
-ghost use Rattle.pg_finders.specs.private.recursion.Growing.{active_of, won_of, HasSizes, IsReady, IsKnown, IsGrown, IsTested, AttractsNoActive};
-ghost use Rattle.pg_finders.specs.private.recursion.Growing.{AttractsAtMost};
+ghost use Rattle.pg_finders.specs.private.recursion.TakenVertices.{active_of, won_of, HasSizes, IsReady, IsKnown, HasTaken, IsTested, AttractsNoActive};
+ghost use Rattle.pg_finders.specs.private.recursion.TakenVertices.{AttractsAtMost};
 ghost use Rattle.pg_finders.specs.Part.{IsOut};
 ghost use Rattle.pg_finders.specs.private.recursion.Order.{AreGreatest};
-ghost use Rattle.pg_finders.specs.private.recursion.Planned.{winners_of, choices_of, IsGiven, SameOutside, HasSize, SameAt};
+ghost use Rattle.pg_finders.specs.private.recursion.Plans.{winners_of, choices_of, IsGiven, SameOutside, HasSize, SameAt};
 ghost use Rattle.pg_finders.specs.private.Solved.{IsBegun};
 
 use crate::inside::{View, successor_in};
@@ -57,7 +57,7 @@ impl Subgame {
         requires ready { IsReady (length game.now) self.old list.old.items }
         requires subgame { IsSubgame game.now (union (active_of self.old) (listed list.old.items)) }
         ensures ready { OnOk result (IsReady (length game.now) self.new list.new.items) }
-        ensures grown { OnOk result (IsGrown game.now player (active_of self.old) self.old.plan list.old.items
+        ensures grown { OnOk result (HasTaken game.now player (active_of self.old) self.old.plan list.old.items
             (active_of self.new) self.new.plan list.new.items) }
         ensures done { OnOk result (AttractsNoActive game.now player (union (active_of self.old) (listed list.old.items)) (listed list.new.items)
             (active_of self.new)) }
@@ -79,7 +79,7 @@ impl Subgame {
         requires below { All (λ v. v < length view.now.game.now) vertices.now }
         requires at_most { AttractsAtMost view.now.game.now player (active_of self.old) list.old.items vertices.now }
         ensures ready { OnOk result (IsReady (length view.now.game.now) self.new list.new.items) }
-        ensures grown { OnOk result (IsGrown view.now.game.now player (active_of self.old) self.old.plan list.old.items
+        ensures grown { OnOk result (HasTaken view.now.game.now player (active_of self.old) self.old.plan list.old.items
             (active_of self.new) self.new.plan list.new.items) }
         ensures done { OnOk result (AttractsNoActive view.now.game.now player (union (active_of self.old) (listed list.old.items)) (listed list.new.items)
             (active_of self.new)) }
@@ -101,7 +101,7 @@ impl Subgame {
         requires known { IsKnown view.now.game.now (members view.now.mask.now) player (active_of self.old) self.old.plan list.old.items }
         requires below { All (λ v. v < length view.now.game.now) vertices.now }
         ensures ready { OnOk result (IsReady (length view.now.game.now) self.new list.new.items) }
-        ensures grown { OnOk result (IsGrown view.now.game.now player (active_of self.old) self.old.plan list.old.items
+        ensures grown { OnOk result (HasTaken view.now.game.now player (active_of self.old) self.old.plan list.old.items
             (active_of self.new) self.new.plan list.new.items) }
         ensures tested { OnOk result ((v : ℕ) → In (listed vertices.now) v
             → IsTested view.now.game.now player (listed list.old.items) (active_of self.old) (active_of self.new) v) }
@@ -125,7 +125,7 @@ impl Subgame {
         requires known { IsKnown view.now.game.now (members view.now.mask.now) player (active_of self.old) self.old.plan list.old.items }
         requires vertex { v < length view.now.game.now }
         ensures ready { OnOk result (IsReady (length view.now.game.now) self.new list.new.items) }
-        ensures grown { OnOk result (IsGrown view.now.game.now player (active_of self.old) self.old.plan list.old.items
+        ensures grown { OnOk result (HasTaken view.now.game.now player (active_of self.old) self.old.plan list.old.items
             (active_of self.new) self.new.plan list.new.items) }
         ensures tested { OnOk result (IsTested view.now.game.now player (listed list.old.items) (active_of self.old) (active_of self.new) v) }
     {
@@ -205,7 +205,7 @@ impl Subgame {
 
 impl AttractorState for Subgame {
     ghost use Rattle.std.specs.Prelude.{length};
-    ghost use Rattle.pg_finders.specs.private.recursion.Growing.{active_of, IsReady, KeepsGrown};
+    ghost use Rattle.pg_finders.specs.private.recursion.TakenVertices.{active_of, IsReady, KeepsTaken};
 
     type Item = u32;
 
@@ -217,7 +217,7 @@ impl AttractorState for Subgame {
 
     ghost ready = { λ g x list capacity. IsReady (length g) x list };
 
-    ghost grown = { λ g p x list x' list'. KeepsGrown g p x list x' list' };
+    ghost grown = { λ g p x list x' list'. KeepsTaken g p x list x' list' };
 
     ghost refuses = { Unit {0} };
 
@@ -264,6 +264,7 @@ pub struct Plan {
 }
 
 impl Plan {
+    /// A plan for so many vertices, which says nothing yet.
     pub fn new(alloc: Global, n: u32) -> Result<Plan, Memory>
         ensures { IfOk result (λ plan. HasSize n plan) }
     {
@@ -273,6 +274,7 @@ impl Plan {
         })
     }
 
+    /// The winner of the vertex.
     pub fn winner(&self, v: u32) -> Player
         requires { v < length self.now.winners.items }
         ensures { result ≡ winners_of self.now v }
@@ -280,6 +282,7 @@ impl Plan {
         self.winners[v as usize]
     }
 
+    /// The choice at the vertex, if there is one.
     pub fn choice(&self, v: u32) -> Option<u32>
         requires { v < length self.now.choices.items }
         ensures { result ≡ choices_of self.now v }
@@ -287,6 +290,7 @@ impl Plan {
         self.choices[v as usize]
     }
 
+    /// Writes the winner of the vertex, and the choice.
     pub fn write(&mut self, v: u32, player: Player, choice: Option<u32>)
         requires winner { v < length self.old.winners.items }
         requires choice { v < length self.old.choices.items }

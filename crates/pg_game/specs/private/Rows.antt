@@ -1,5 +1,5 @@
 -- Lists of numbers in compressed sparse rows (private).
-use Rattle.std.specs.Prelude.{ℕ, ◌≡◌, ◌+◌, ◌<◌, ◌≤◌, ◌↔◌, List, [], length, sum_by, slice_index, slice_index_or, Contains}
+use Rattle.std.specs.Prelude.{ℕ, ◌≡◌, ◌+◌, ◌<◌, ◌≤◌, ◌^◌, ◌↔◌, List, [], length, sum_by, slice_index, slice_index_or, Contains}
 use Rattle.std.specs.List.Sorted.{IsStrictlyIncreasing}
 
 -- offsets rise from 0 to the number of targets
@@ -17,8 +17,9 @@ size_of rows = sum_by (λ row. length row) rows
 abbrev pub row_at : List (List ℕ) → ℕ → List ℕ
 row_at rows v = slice_index_or rows v []
 
--- each row rises, and has only numbers of rows
+-- each row rises, and has only numbers of rows, which have 32 bits
 pub record AreRisingRows (rows : List (List ℕ)) : Type 0 where
+  pub few : length rows < 2 ^ 32
   pub below : (v k : ℕ) → v < length rows → k < length (row_at rows v) → slice_index (row_at rows v) k < length rows
   pub rising : (v : ℕ) → v < length rows → IsStrictlyIncreasing (row_at rows v)
 

@@ -1,11 +1,19 @@
 -- How a game is stored.
-use Rattle.std.specs.Prelude.{ℕ, ◌≡◌, ◌<◌, List, length}
+use Rattle.std.specs.Prelude.{ℕ, ◌≡◌, ◌<◌, ◌≤◌, List, length, All}
 use Rattle.pg_game.specs.declared.player.Player.{Player}
 use Rattle.pg_game.specs.Graph.{Graph, IsGame}
 use Rattle.pg_game.specs.Limits.{IsWithinLimits}
 use Rattle.pg_game.specs.Predecessors.{ArePredecessors}
 use Rattle.pg_game.specs.private.Rows.{row_at}
 use Rattle.pg_game.specs.View.{graph_of}
+use Rattle.pg_game.specs.declared.specification.Spec.{Spec}
+use Rattle.pg_game.specs.Specification.{AreNumbers, max_vertices}
+
+-- specifications that may make a game: their numbers are within the limit, and so is how many there are
+pub record AreWithinLimits (specs : List Spec) : Type 0 where
+  pub numbers : All AreNumbers specs
+  pub some : 0 < length specs
+  pub few : length specs ≤ max_vertices
 
 -- each part has one entry for each vertex
 pub record AreParts (ids ps : List ℕ) (os : List Player) (rows : List (List ℕ)) : Type 0 where

@@ -15,7 +15,7 @@ use Rattle.pg_text.specs.declared.reader.State.TheVariants.{Listing, Vertex, Nam
 use Rattle.pg_text.specs.private.GameReads.{line, AreNonempty, IsWhole, AreOwners, AreLines, begun, Leads, part_after, Agrees, SaysSpecs}
 use Rattle.pg_text.specs.private.Machine.{symbol_of, run, lines_after, Read, Stops}
 use Rattle.pg_text.specs.private.Tables.{game_table as table}
-use Rattle.pg_text.proofs.FirstFaults.{all-push}
+use Rattle.pg_game.proofs.AllElements.{all-push}
 use Rattle.pg_text.proofs.laws.ExclusiveFaults.{game_prefix, game_begins}
 use Rattle.pg_text.proofs.reader.Machine.{word_cases, pushed, leads_in, goes_on, stops_at}
 
@@ -191,7 +191,15 @@ module _ {sound : Bool} {ts : List Token} {s : State} {Holds : List WrittenGameL
   pub before_owner : (x : Symbol) → AreOwners k.lines → table s x ≡ Some Owner → IsBeforeOwner ts
   before_owner x o e =
       let (done, w, b, f) = leads_in k (owner_next s x e) in
-      (w.header, w.start, k.lines, k.part.id, k.part.priority, o, f ∙ ap (λ us. us ++ begun Priority k.part) w.tokens)
+      record {
+        header = w.header;
+        start = w.start;
+        earlier = k.lines;
+        id = k.part.id;
+        priority = k.part.priority;
+        owners = o;
+        tokens = f ∙ ap (λ us. us ++ begun Priority k.part) w.tokens;
+      }
 
 pub reads_none : (specs : List Spec) (id priority : ℕ) (owner : Player) (successors : List ℕ) → specs ≡ [] → id ≡ 0 → priority ≡ 0 → owner ≡ Even → successors ≡ []
     → Read table Leads true [] Start (λ lines l. Agrees lines l specs id priority owner successors)

@@ -63,15 +63,13 @@ fit_at [] m t a = a.0
 fit_at (x ∷ xs) m t a = fit_at xs m t a.1
 
 pub number_once : (I : List Token → Type 0) (text : List ℕ) (a b : ℕ) → IsNumberFault I text a → IsNumberFault I text b → a ≡ b
-number_once I text a b (ts, s, g, (b1, a1, t1, e1, p1, f1, n1)) (us, z, h, (b2, a2, t2, e2, p2, f2, n2)) =
-    search (rules, one_spelling, places, t1.token, fit_at, t2.token)
+number_once I text a b x y = search (rules, one_spelling, places, x.first.token.token, fit_at, y.first.token.token)
 
 pub number_or_fit : (I : List Token → Type 0) (text : List ℕ) (a : ℕ) (us : List Placed) → IsNumberFault I text a → Spells 0 text us → AllFit (tokens_of us) → ⊥
-number_or_fit I text a us (ts, s, g, (b1, a1, t1, e1, p1, f1, n1)) z f = search (rules, one_spelling, t1.token, fit_at)
+number_or_fit I text a us x z f = search (rules, one_spelling, x.first.token.token, fit_at)
 
 -- where a number after an earlier player's place is below 2, the place of the first that is not is determined
 pub player_once : (B I IsBefore : List Token → Type 0) → PrefixClosed B → ((ts : List Token) → I ts → B ts)
     → ((xs ys m : List Token) (n : ℕ) → IsBefore xs → IsBefore ys → B ys → ys ≡ xs ++ Number n ∷ m → n < 2)
     → (text : List ℕ) (a b : ℕ) → IsPlayerFault I IsBefore text a → IsPlayerFault I IsBefore text b → a ≡ b
-player_once B I IsBefore closed begins small text a b (ts, s, g, f, (b1, a1, t1, n1, e1, p1, y1, k1, c1)) (us, z, h, w, (b2, a2, t2, n2, e2, p2, y2, k2, c2)) =
-    search (rules, tokens_append, places, one_spelling, tokens_at)
+player_once B I IsBefore closed begins small text a b x y = search (rules, tokens_append, places, one_spelling, tokens_at)

@@ -91,16 +91,17 @@ one_reading ts ls ks i j =
 -- an owner inside lines whose owners are 0 and 1, and what follows them, is 0 or 1
 inner_owner : (xs m : List Token) (n : ℕ) (k t : Option ℕ) (ls : List WrittenGameLine) (more : List Token) → IsBeforeOwner xs → AreOwners ls
     → length more ≤ 2 → ((word : List ℕ) → Avoids word more) → xs ++ Number n ∷ m ≡ game_tokens k t ls ++ more → n < 2
-inner_owner xs m n k t ls more (h, s, ks, i, p, o, x) owned short a e =
-    let stem : List Token = Number i ∷ Number p ∷ [] in
-    let f : headed (codes "parity") h ++ (headed (codes "start") s ++ (flat_map game_line_tokens ks ++ (stem ++ Number n ∷ m)))
-    ≡ headed (codes "parity") k ++ (headed (codes "start") t ++ (flat_map game_line_tokens ls ++ more)) = search (rules, append_assoc) in
-    player_small game_line_tokens first front (λ l. l.owner) stem m n (λ l us g. cc g) (λ l. omega arith) more short ks ls
-    (behind_heads h s k t ks ls (stem ++ Number n ∷ m) more (numbers i (Number p ∷ Number n ∷ m)) a f) owned
+inner_owner xs m n k t ls more x owned short a e =
+    let stem : List Token = Number x.id ∷ Number x.priority ∷ [] in
+    let f : headed (codes "parity") x.header ++ (headed (codes "start") x.start ++ (flat_map game_line_tokens x.earlier ++ (stem ++ Number n ∷ m)))
+    ≡ headed (codes "parity") k ++ (headed (codes "start") t ++ (flat_map game_line_tokens ls ++ more)) = search (rules, append_assoc, x.tokens) in
+    player_small game_line_tokens first front (λ l. l.owner) stem m n (λ l us g. cc g) (λ l. omega arith) more short x.earlier ls
+    (behind_heads x.header x.start k t x.earlier ls (stem ++ Number n ∷ m) more (numbers x.id (Number x.priority ∷ Number n ∷ m)) a f) owned
 
 later_owner : (xs ys m : List Token) (n : ℕ) → IsBeforeOwner xs → IsBeforeOwner ys → BeginsGameText ys → ys ≡ xs ++ Number n ∷ m → n < 2
-later_owner xs ys m n a (h, s, ls, i, p, o, y) b e =
-    inner_owner xs m n h s ls (Number i ∷ Number p ∷ []) a o (omega arith) (numbers i (Number p ∷ [])) (sym e ∙ y)
+later_owner xs ys m n a y b e =
+    inner_owner xs m n y.header y.start y.earlier (Number y.id ∷ Number y.priority ∷ []) a y.owners (omega arith) (numbers y.id (Number y.priority ∷ []))
+    (sym e ∙ y.tokens)
 
 pub owner_once : (text : List ℕ) (a b : ℕ) → IsPlayerFault IsSomeGameText IsBeforeOwner text a → IsPlayerFault IsSomeGameText IsBeforeOwner text b → a ≡ b
 owner_once = player_once BeginsGameText IsSomeGameText IsBeforeOwner game_prefix game_begins later_owner
@@ -108,8 +109,10 @@ owner_once = player_once BeginsGameText IsSomeGameText IsBeforeOwner game_prefix
 -- a wrong owner is in no text whose owners are 0 and 1
 pub owner_or_lines : (text : List ℕ) (a : ℕ) (us : List Placed) (lines : List WrittenGameLine) → IsPlayerFault IsSomeGameText IsBeforeOwner text a
     → Spells 0 text us → IsGameText (tokens_of us) lines → AreOwners lines → ⊥
-owner_or_lines text a us lines (ts, s, g, f, (b1, a1, t1, n1, e1, p1, y1, k1, c1)) z w o =
-    let d : tokens_of us ≡ tokens_of b1 ++ Number n1 ∷ tokens_of a1 = ap tokens_of (one_spelling 0 text us ts z s ∙ e1) ∙ tokens_at b1 a1 t1 n1 k1 in
+owner_or_lines text a us lines x z w o =
+    let h = x.first in
+    let d : tokens_of us ≡ tokens_of h.before ++ Number h.number ∷ tokens_of h.after =
+    ap tokens_of (one_spelling 0 text us x.tokens z x.spelled ∙ h.split) ∙ tokens_at h.before h.after h.token h.number h.number_is in
     let e = sym d ∙ (w.tokens ∙ sym (append-nil (game_tokens w.header w.start lines))) in
-    let l = inner_owner (tokens_of b1) (tokens_of a1) n1 w.header w.start lines [] y1 o (omega arith) no_tokens e in
-    omega (arith, l, c1)
+    let l = inner_owner (tokens_of h.before) (tokens_of h.after) h.number w.header w.start lines [] h.expected o (omega arith) no_tokens e in
+    omega (arith, l, h.wrong)

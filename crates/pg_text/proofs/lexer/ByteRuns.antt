@@ -2,16 +2,16 @@
 use Rattle.pg_text.proofs.Common.{◌≡◌, ℕ, ◌+◌, ◌*◌, ◌-◌, ◌^◌, ◌<◌, ◌≤◌, Bool, true, false, List, [], ◌∷◌, ◌++◌, length, get_or, refl, ◌∙◌, ap, arith}
 use Rattle.pg_text.proofs.Common.{append_assoc, length-append, rules, cases_lt, leb-true, drop_more, AllAre, is_digit, value_of, IsRun}
 use Rattle.std.proofs.Common.{add-one}
+use Rattle.pg_game.proofs.AllElements.{all-append}
 use Rattle.std.specs.Prelude.{fold, ◌&&◌, nat_le}
 use Rattle.std.proofs.Math.Nat.{pow-succ'}
 
-pub all-append : (test : ℕ → Bool) (xs ys : List ℕ) → AllAre test xs → AllAre test ys → AllAre test (xs ++ ys)
-all-append test [] ys a b = b
-all-append test (x ∷ xs) ys a b = (a.0, all-append test xs ys a.1 b)
+pub AllAre-append : (test : ℕ → Bool) (xs ys : List ℕ) → AllAre test xs → AllAre test ys → AllAre test (xs ++ ys)
+AllAre-append test xs ys a b = all-append (λ x. test x ≡ true) xs ys a b
 
 pub run_more : (test : ℕ → Bool) (text : List ℕ) (from to : ℕ) (run : List ℕ) → IsRun test text from to run → to < length text
     → test (get_or text to 0) ≡ true → IsRun test text from (to + 1) (run ++ get_or text to 0 ∷ [])
-run_more test text from to run r h p = search (rules, r.split, drop_more, append_assoc, all-append, r.passes, r.end, length-append)
+run_more test text from to run r h p = search (rules, r.split, drop_more, append_assoc, AllAre-append, r.passes, r.end, length-append)
 
 pub fold-push : (ds : List ℕ) (n d : ℕ) → fold (λ n d. 10 * n + (d - 48)) n (ds ++ d ∷ []) ≡ 10 * fold (λ n d. 10 * n + (d - 48)) n ds + (d - 48)
 fold-push [] n d = refl

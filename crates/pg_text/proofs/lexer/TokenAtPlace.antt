@@ -9,7 +9,7 @@ use Rattle.std.specs.Prelude.{not, ◌≢◌}
 use Rattle.std.proofs.lemmas.Bool.{ne_eqb}
 use Rattle.std.proofs.lemmas.List.{take_all, drop-drop, length-take-le, take_at, drop_at}
 use Rattle.pg_text.specs.Bytes.{is_quote}
-use Rattle.pg_text.proofs.lexer.ByteRuns.{all-append}
+use Rattle.pg_text.proofs.lexer.ByteRuns.{AllAre-append}
 use Rattle.pg_text.specs.declared.lexer.Kind.TheVariants as kind
 
 module _ (text : List ℕ) (from : ℕ) (inside : from < length text) where
@@ -63,7 +63,7 @@ token_past text at from end to run t r i = record {
   body = i.body;
   begins = record {
     split = r.split ∙ (ap (λ xs. run ++ xs) i.begins.split ∙ sym (append_assoc run i.blanks (i.body ++ drop to text)));
-    blank = all-append is_blank run i.blanks r.passes i.begins.blank;
+    blank = AllAre-append is_blank run i.blanks r.passes i.begins.blank;
     placed = let f = length-append run i.blanks in let p = i.begins.placed in let q = r.end in omega arith;
     spelled = i.begins.spelled;
     whole = i.begins.whole;
@@ -78,13 +78,13 @@ lexeme_past kind.Word text at from end to run r (n, i) = (n, token_past text at 
 lexeme_past kind.Name text at from end to run r (n, i) = (n, token_past text at from end to run (Name n) r i)
 lexeme_past kind.Comma text at from end to run r i = token_past text at from end to run Comma r i
 lexeme_past kind.Semicolon text at from end to run r i = token_past text at from end to run Semicolon r i
-lexeme_past kind.End text at from end to run r i = subst (AllAre is_blank) (sym r.split) (all-append is_blank run (drop from text) r.passes i)
+lexeme_past kind.End text at from end to run r i = subst (AllAre is_blank) (sym r.split) (AllAre-append is_blank run (drop from text) r.passes i)
 lexeme_past kind.Invalid text at from end to run r i = record {
   blanks = run ++ i.blanks;
   byte = i.byte;
   after = i.after;
   split = r.split ∙ (ap (λ xs. run ++ xs) i.split ∙ sym (append_assoc run i.blanks (i.byte ∷ i.after)));
-  blank = all-append is_blank run i.blanks r.passes i.blank;
+  blank = AllAre-append is_blank run i.blanks r.passes i.blank;
   placed = let f = length-append run i.blanks in let p = i.placed in let q = r.end in omega arith;
   solid = i.solid;
   wrong = i.wrong;

@@ -135,7 +135,8 @@ module _ {sound : Bool} {ts : List Token} {s : State} {Holds : List WrittenSolut
 
   pub before_winner : (x : Symbol) → AreWinners k.lines → table s x ≡ Some Winner → IsBeforeWinner ts
   before_winner x winners e =
-      let (done, (h, w), b, f) = leads_in k (winner_next s x e) in (h, k.lines, k.part.id, winners, f ∙ ap (λ us. us ++ begun Id k.part) w)
+      let (done, (h, w), b, f) = leads_in k (winner_next s x e) in
+      record { header = h; earlier = k.lines; id = k.part.id; winners = winners; tokens = f ∙ ap (λ us. us ++ begun Id k.part) w }
 
 pub reads_none : (held : List WrittenSolutionLine) (id winner : ℕ) (choice : Option ℕ) → held ≡ [] → id ≡ 0 → winner ≡ 0 → choice ≡ None
     → Read table Leads true [] Start (λ lines l. Agrees lines l held id winner choice)

@@ -10,7 +10,8 @@ use Rattle.std.proofs.lemmas.List.Sums.{sum_by-cons}
 use Rattle.pg_game.specs.Specification.{max_vertices}
 use Rattle.pg_text.specs.Lengths.{most_digits, greatest_header, greatest_game_text, greatest_winners_text, greatest_solution_text}
 use Rattle.pg_text.proofs.Numerals.{length-numeral, numeral_spells}
-use Rattle.pg_text.proofs.writing.WrittenTexts.{HasNumbers, have_numbers, last_id, all_from_places, all_imply}
+use Rattle.pg_text.proofs.writing.WrittenTexts.{HasNumbers, have_numbers, last_id}
+use Rattle.pg_game.proofs.AllElements.{all_from_places, all_imply}
 
 -- a number within the limit
 short_number : (n : ℕ) → n ≤ max_number → length (numeral n) ≤ most_digits

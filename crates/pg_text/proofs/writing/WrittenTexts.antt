@@ -1,5 +1,5 @@
 -- The written text of a game or of a solution spells one text.
-use Rattle.pg_text.proofs.Common.{◌≡◌, ℕ, ◌+◌, ◌-◌, ◌<◌, ◌≤◌, suc, get_or, true, List, [], ◌∷◌, ◌++◌, length, map, refl, sym, ap, subst, arith}
+use Rattle.pg_text.proofs.Common.{◌≡◌, ℕ, ◌+◌, ◌-◌, ◌<◌, ◌≤◌, get_or, true, List, [], ◌∷◌, ◌++◌, length, map, refl, sym, ap, subst, arith}
 use Rattle.pg_text.proofs.Common.{append_assoc, numeral, rules, flat_map, codes, option_map, IfSome, AllByRecursion, join_with_byte, le-leb}
 use Rattle.pg_text.proofs.Common.{length-map, Player, digit_of, Graph, Vertex, id_of, owner_of, IsGame, no_vertex, successors_of, Token, Number}
 use Rattle.pg_text.proofs.Common.{Word, Comma, Semicolon, IsSpelling, IsWhole, Placed, tokens_of, Begins, Spells, is_blank, is_digit, is_letter, AllAre}
@@ -7,7 +7,7 @@ use Rattle.pg_text.proofs.Common.{EndsRun, placed, max_number, IsWithinLimits, f
 use Rattle.pg_text.proofs.Common.{SolutionRows, AreSolutionRows, greatest_id, written_vertex, written_game, written_choice, written_rows, written_solution}
 use Rattle.std.proofs.Common.{Option, Some, None}
 use Rattle.pg_text.proofs.solution_text.TokenSteps.{owner_small}
-use Rattle.pg_text.proofs.FirstFaults.{all-append}
+use Rattle.pg_game.proofs.AllElements.{all-append, all_from_places, all_imply, all-map}
 use Rattle.pg_game.specs.Graph.{priority_of}
 use Rattle.pg_text.proofs.Numerals.{numeral_spells}
 use Rattle.pg_text.proofs.laws.UniqueGameLines.{further, separated-first}
@@ -132,18 +132,6 @@ spells_lines : (g : Graph) (xs : List Vertex) → AllByRecursion (HasSuccessors 
     → SpellsTokens (flat_map (written_vertex g) xs) (flat_map games.game_line_tokens (map (λ x. line_of g x) xs))
 spells_lines g [] a = spells_nothing
 spells_lines g (x ∷ xs) a = spells_line g x a.0 (spells_lines g xs a.1)
-
-pub all_from_places : {X : Type 0} (P : X → Type 0) (d : X) (xs : List X) → ((k : ℕ) → k < length xs → P (get_or xs k d)) → AllByRecursion P xs
-all_from_places P d [] h = tt
-all_from_places P d (x ∷ xs) h = (h 0 (omega arith), all_from_places P d xs (λ k l. h (suc k) (omega arith)))
-
-pub all_imply : {X : Type 0} (P Q : X → Type 0) (xs : List X) → ((x : X) → P x → Q x) → AllByRecursion P xs → AllByRecursion Q xs
-all_imply P Q [] f a = tt
-all_imply P Q (x ∷ xs) f a = (f x a.0, all_imply P Q xs f a.1)
-
-all-map : {X Y : Type 0} (f : X → Y) (P : Y → Type 0) (xs : List X) → AllByRecursion (λ x. P (f x)) xs → AllByRecursion P (map f xs)
-all-map f P [] a = tt
-all-map f P (x ∷ xs) a = (a.0, all-map f P xs a.1)
 
 have_successors : (g : Graph) → IsGame g → AllByRecursion (HasSuccessors g) g
 have_successors g i = all_from_places (HasSuccessors g) no_vertex g (λ v l.

@@ -1,9 +1,9 @@
 -- The first faults among the tokens read so far, as the private readers know them.
-use Rattle.std.specs.Prelude.{ℕ, ◌≡◌, ◌<◌, Bool, true, false, nat_lt, List, ◌∷◌, ◌++◌, Option, Some, None}
+use Rattle.std.specs.Prelude.{ℕ, Bool, true, false, nat_lt, List, Option, Some, None}
 use Rattle.pg_text.specs.declared.reader.State.{State}
 use Rattle.pg_text.specs.declared.reader.State.TheVariants as state
-use Rattle.pg_text.specs.Token.{Token, Number, Placed, tokens_of}
-use Rattle.pg_text.specs.Fault.{fits, AllFit}
+use Rattle.pg_text.specs.Token.{Token, Placed, tokens_of}
+use Rattle.pg_text.specs.Fault.{AllFit, IsFirstLarge, IsWrongPlayer}
 
 abbrev pub placed : Token → ℕ → Placed
 placed t from = record { token = t; place = from }
@@ -19,20 +19,12 @@ abbrev pub wrong_in : State → ℕ → Bool
 wrong_in state.Player value = nat_lt 1 value
 wrong_in s value = false
 
-abbrev pub HasLarge : List Placed → ℕ → Type 0
-HasLarge ts p = (before after : List Placed) × (t : Placed) × (ts ≡ before ++ t ∷ after) × (p ≡ t.place) × AllFit (tokens_of before) × (fits t.token ≡ false)
-
 -- the first number above the limit, if there is one
 abbrev pub FirstLarge : List Placed → Option ℕ → Type 0
 FirstLarge ts None = AllFit (tokens_of ts)
-FirstLarge ts (Some p) = HasLarge ts p
-
-abbrev pub HasPlayer : (List Token → Type 0) → List Placed → ℕ → Type 0
-HasPlayer IsBefore ts p =
-    (before after : List Placed) × (t : Placed) × (n : ℕ) × (ts ≡ before ++ t ∷ after) × (p ≡ t.place) × IsBefore (tokens_of before) × (t.token ≡ Number n)
-    × (1 < n)
+FirstLarge ts (Some p) = IsFirstLarge ts p
 
 -- the first player above 1, where one is known
 abbrev pub FirstPlayer : (List Token → Type 0) → List Placed → Option ℕ → Type 0
 FirstPlayer IsBefore ts None = Unit {0}
-FirstPlayer IsBefore ts (Some p) = HasPlayer IsBefore ts p
+FirstPlayer IsBefore ts (Some p) = IsWrongPlayer IsBefore ts p

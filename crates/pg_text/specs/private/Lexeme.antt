@@ -1,11 +1,11 @@
 -- What the private lexer returns of the next token of a text: its kind, and the places where it begins and ends.
-use Rattle.std.specs.Prelude.{ℕ, ◌≡◌, ◌+◌, Bool, false, nat_le, if◌then◌else◌, List, ◌∷◌, ◌++◌, length, drop, Option, Some, None, ◌⊎◌}
+use Rattle.std.specs.Prelude.{ℕ, ◌≡◌, ◌≤◌, ◌+◌, Bool, false, nat_le, if◌then◌else◌, List, ◌∷◌, ◌++◌, length, drop, Option, Some, None, ◌⊎◌}
 use Rattle.pg_game.specs.Specification.{max_number}
 use Rattle.pg_text.specs.declared.lexer.Kind.{Kind}
 use Rattle.pg_text.specs.declared.lexer.Kind.TheVariants as kind
 use Rattle.pg_text.specs.declared.lexer.Lexeme.{Lexeme}
 use Rattle.pg_text.specs.Token.{Token, Number, Word, Name, Comma, Semicolon, Begins}
-use Rattle.pg_text.specs.Bytes.{AllAre, is_blank, is_no_quote, begins_token}
+use Rattle.pg_text.specs.Bytes.{AllAre, EndsRun, is_blank, is_digit, is_no_quote, begins_token, value_of}
 
 -- the number, where it is within the limit
 abbrev pub fitting : ℕ → Option ℕ
@@ -47,3 +47,20 @@ pub record IsRun (test : ℕ → Bool) (text : List ℕ) (from to : ℕ) (run : 
   pub split : drop from text ≡ run ++ drop to text
   pub passes : AllAre test run
   pub end : to ≡ from + length run
+
+-- they are a place of the text and a later one, or the same
+pub record IsRangeOf (text : List ℕ) (from to : ℕ) : Type 0 where
+  pub order : from ≤ to
+  pub within : to ≤ length text
+
+-- a run that no further byte continues
+pub record IsWholeRun (test : ℕ → Bool) (text : List ℕ) (from to : ℕ) : Type 0 where
+  pub run : (bytes : List ℕ) × IsRun test text from to bytes
+  pub within : to ≤ length text
+  pub ends : EndsRun test (drop to text)
+
+-- a run of digits that no further digit continues, and its value, if that is within the limit
+pub record IsWholeNumber (text : List ℕ) (from to : ℕ) (value : Option ℕ) : Type 0 where
+  pub run : (digits : List ℕ) × IsRun is_digit text from to digits × (value ≡ fitting (value_of digits))
+  pub within : to ≤ length text
+  pub ends : EndsRun is_digit (drop to text)

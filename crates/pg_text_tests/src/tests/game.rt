@@ -142,10 +142,10 @@ fn from_specs(alloc: Global, specs: Vec<Spec>) -> Result<Game, GameFault>
 }
 
 /// The game of flat lists, without a contract.
-fn from_rows(alloc: Global, specs: GameBuilder) -> Result<Game, GameFault>
+fn from_builder(alloc: Global, specs: GameBuilder) -> Result<Game, GameFault>
     requires { All AreNumbers specs }
 {
-    let forward = ForwardGame::from_rows(alloc, specs)?;
+    let forward = ForwardGame::from_builder(alloc, specs)?;
     Ok(Game::of_forward(alloc, forward)?)
 }
 
@@ -160,7 +160,7 @@ fn game_of(alloc: Global, rows: &[Row]) -> Result<Game, GameFault> {
 
 /// The game of the same rows in flat lists.
 fn flat_game_of(alloc: Global, rows: &[Row]) -> Result<Game, GameFault> {
-    from_rows(alloc, flat_of_rows(alloc, rows)?)
+    from_builder(alloc, flat_of_rows(alloc, rows)?)
 }
 
 /// All that is returned of a vertex.
@@ -315,7 +315,7 @@ fn compare_random(rt: &impl Abort, alloc: Global, seed: &mut u32, step: u32, tur
 
 /// What is answered for the same specifications in flat lists.
 fn flat_answer(rt: &impl Abort, alloc: Global, specs: &[Spec]) -> Result<Game, GameFault> {
-    from_rows(alloc, flat_of(alloc, specs).expect(rt, "memory"))
+    from_builder(alloc, flat_of(alloc, specs).expect(rt, "memory"))
 }
 
 #[test]

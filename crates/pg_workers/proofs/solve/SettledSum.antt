@@ -1,9 +1,9 @@
 -- The sum of a report's column `settled` is what its workers settled, and the calling thread's entries come after.
 use Rattle.pg_game.specs.declared.player.Player.TheVariants.{Even, Odd}
 use Rattle.pg_workers.proofs.Common.{AreOfCaller, [], ◌∷◌, drop}
-use Rattle.pg_workers.proofs.Common.{rules, ◌≡◌, ℕ, ◌+◌, List, length, sum, take, sym, ap, ◌∙◌, subst, arith, length-append, vec_len, take-append_seam, Graph}
+use Rattle.pg_workers.proofs.Common.{rules, ◌≡◌, ℕ, ◌+◌, List, length, sum, take, sym, ap, ◌∙◌, subst, arith, length-append, take-append_seam, Graph}
 use Rattle.pg_workers.proofs.Common.{drop-append_seam, IsExactSolution, KnownRows, Journal, state_of, IsLawful, number_settled, IsFull, AreStateRows, BoardRecord}
-use Rattle.pg_workers.proofs.Common.{ReportRow, AddsUp, AreNumbered, IsReport, settled_in, IsLater, HasSettled, IsOutcome}
+use Rattle.pg_workers.proofs.Common.{ReportRow, AddsUp, IsInOrder, IsReport, settled_in, IsLater, HasSettled, IsOutcome}
 use Rattle.pg_workers.specs.declared.solve.Outcome.{Outcome}
 
 pub adds_up : (old new : BoardRecord) (report : List ReportRow) (known : ℕ) → IsLater (Even ∷ Odd ∷ []) old new → settled_in report + known ≡ number_settled old.journal
@@ -21,17 +21,33 @@ adds_up old new report known later is =
           later.by_caller;
     }
 
--- what a run gives once nothing is left on its board
-pub is_outcome : (old new : BoardRecord) (known : KnownRows) (workers : ℕ) (o : Outcome) → IsLater (Even ∷ Odd ∷ []) old new → o.entries.items ≡ new.journal
-    → IsLawful new.graph new.journal → IsFull new.graph (state_of new.journal) → AreStateRows new.graph (state_of new.journal) o.solution.rows
-    → IsExactSolution new.graph o.solution.rows → length o.report.items ≡ vec_len o.report → AreNumbered o.report.items
-    → IsReport workers o.report.items → HasSettled old.graph known o.report.items old.journal → IsOutcome old.graph known (vec_len o.report) workers o
-is_outcome old new known workers o later is lawful full state exact long numbered report (n, size, sum) = record {
-  lawful = subst (λ (j : Journal). IsLawful old.graph j) (sym is) (subst (λ (g : Graph). IsLawful g new.journal) later.graph lawful);
-  full = subst (λ (j : Journal). IsFull old.graph (state_of j)) (sym is) (subst (λ (g : Graph). IsFull g (state_of new.journal)) later.graph full);
-  state = search rules;
-  exact = subst (λ (g : Graph). IsExactSolution g o.solution.rows) later.graph exact;
-  report = (long, numbered);
-  rows = report;
-  adds_up = (n, size, subst (λ (j : Journal). AddsUp n j o.report.items) (sym is) (adds_up old new o.report.items n later sum));
+-- the board of a run and its report before the calling thread settles the rest, and what it then returns
+pub record IsSettledRun (old new : BoardRecord) (known : KnownRows) (total workers : ℕ) (o : Outcome) : Type 0 where
+  pub later : IsLater (Even ∷ Odd ∷ []) old new
+  pub entries : o.entries.items ≡ new.journal
+  pub lawful : IsLawful new.graph new.journal
+  pub full : IsFull new.graph (state_of new.journal)
+  pub state : AreStateRows new.graph (state_of new.journal) o.solution.rows
+  pub exact : IsExactSolution new.graph o.solution.rows
+  pub settled : HasSettled old.graph known o.report.items old.journal
+  pub order : IsInOrder total o.report.items
+  pub rows : IsReport workers o.report.items
+
+pub is_outcome : (old new : BoardRecord) (known : KnownRows) (total workers : ℕ) (o : Outcome) → IsSettledRun old new known total workers o
+    → IsOutcome old.graph known total workers o
+is_outcome old new known total workers o r = record {
+  regions = r.settled.regions;
+  lawful = subst (λ (j : Journal). IsLawful old.graph j) (sym r.entries) (subst (λ (g : Graph). IsLawful g new.journal) r.later.graph r.lawful);
+  full =
+      subst (λ (j : Journal). IsFull old.graph (state_of j)) (sym r.entries) (subst (λ (g : Graph). IsFull g (state_of new.journal)) r.later.graph r.full);
+  state = search (rules, r.state, r.entries, r.later.graph);
+  exact = subst (λ (g : Graph). IsExactSolution g o.solution.rows) r.later.graph r.exact;
+  report = r.order;
+  rows = r.rows;
+  adds_up = (
+    r.settled.attracted,
+    r.settled.size,
+    subst (λ (j : Journal). AddsUp r.settled.attracted j o.report.items) (sym r.entries)
+        (adds_up old new o.report.items r.settled.attracted r.later r.settled.sum),
+  );
 }

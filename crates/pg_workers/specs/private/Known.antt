@@ -51,6 +51,9 @@ pub record HasKnown (g : Graph) (known : KnownRows) (journal : Journal) : Type 0
   pub states : KeepsKnown g known (state_of journal)
   pub number : IsKnownSize g known (number_settled journal)
 
--- the rows' column `settled` and what the known sets attract are together the number settled
-abbrev pub HasSettled : Graph → KnownRows → List ReportRow → Journal → Type 0
-HasSettled g known report journal = (n : ℕ) × IsKnownSize g known n × (settled_in report + n ≡ number_settled journal)
+-- both known sets are regions, and the rows' column `settled` and what the sets attract are together the number settled
+pub record HasSettled (g : Graph) (known : KnownRows) (report : List ReportRow) (journal : Journal) : Type 0 where
+  pub regions : (p : Player) → IsKnownRegion g known p
+  pub attracted : ℕ
+  pub size : IsKnownSize g known attracted
+  pub sum : settled_in report + attracted ≡ number_settled journal

@@ -5,7 +5,7 @@ use Rattle.pg_workers.specs.declared.report.ReportRow.{ReportRow}
 use Rattle.pg_workers.specs.Counting.{times, once_below}
 use Rattle.pg_board.specs.declared.journal.Refusal.{Refusal}
 use Rattle.pg_board.specs.declared.journal.Refusal.TheVariants as refusal
-use Rattle.pg_workers.specs.Report.{blank_row}
+use Rattle.pg_workers.specs.Report.{AreCounts, IsInOrder, IsReport, blank_row}
 
 -- no worker drew a job
 abbrev pub AreBlank : List ReportRow → Type 0
@@ -56,3 +56,22 @@ without_posts r = record r { posted = 0; settled = 0 }
 -- the number of claims of the job that were posted, stale or refused
 abbrev pub answered : ReportRow → ℕ
 answered r = r.posted + r.stale + r.refused
+
+-- the row of a job that this worker drew
+pub record IsWorkersRow (job worker : ℕ) (r : ReportRow) : Type 0 where
+  pub job_is : r.job ≡ job
+  pub worker_is : r.worker ≡ Some worker
+  pub counts : AreCounts r
+
+-- The row counts the answers to at most this many further claims of its job, and the worker's share rises by what they settled.
+pub record AreCounted (claims : ℕ) (old new : ReportRow) (share later : ℕ) : Type 0 where
+  pub job : new.job ≡ old.job
+  pub worker : new.worker ≡ old.worker
+  pub few : answered new ≤ answered old + claims
+  pub counts : AreCounts old → AreCounts new
+  pub settled : later + old.settled ≡ share + new.settled
+
+-- what a report says of its jobs, posts aside, the new one says too
+pub record KeepsReport (old new : List ReportRow) : Type 0 where
+  pub order : (total : ℕ) → IsInOrder total old → IsInOrder total new
+  pub rows : (workers : ℕ) → IsReport workers old → IsReport workers new

@@ -1,4 +1,4 @@
--- What a run tells that solves a game from what was read of it, or from nothing.
+-- The output and the faults of a run that solves a game from what was read of it, or from nothing.
 use Rattle.pgboard.proofs.Common.{ℕ, Bool, List, [], length, refl, arith, Option, Some, None, replicate}
 use Rattle.pgboard.proofs.Common.{Player, Graph, IsGame, KnownRows, IsKnownRegion, RunFault, IsReadGame}
 use Rattle.pgboard.proofs.Common.{IsSolveText, IsSolveOutput}

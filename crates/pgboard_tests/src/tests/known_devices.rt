@@ -15,7 +15,7 @@ use super::asserting::made;
 use pg_finders::Standard;
 use pg_workers::Pass;
 use pgboard::{
-    Asked, RunFault, SolveOptions, Std, Verdict, asked, run_over, run_solve, run_verify,
+    Asked, RunFault, SolveOptions, Std, Verdict, asked, run_asked, run_solve, run_verify,
 };
 use std::alloc::Global;
 use std::process::Abort;
@@ -108,7 +108,16 @@ fn output_for<R: Threads + Wait + Sync>(
     let mut out = Std::new(Vec::new(alloc));
     let mut first = Std::new(first);
     let mut second = Std::new(second);
-    let status = run_over(rt, alloc, asked, &mut first, &mut second, &mut out)?;
+    let status = run_asked(
+        rt,
+        alloc,
+        asked,
+        &mut first,
+        &mut second,
+        &mut out,
+        &Pass,
+        &Standard,
+    )?;
     Ok((status, out.into_inner()))
 }
 

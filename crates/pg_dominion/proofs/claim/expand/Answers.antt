@@ -3,7 +3,7 @@ use Rattle.pg_dominion.proofs.Common.{Contains-append_left, In, ClaimRows, IsRig
 use Rattle.std.proofs.lemmas.List.Elements.{Contains-append_right}
 use Rattle.pg_game.proofs.Gathered.{any_from}
 use Rattle.pg_dominion.proofs.Rows.{named_right}
-use Rattle.pg_dominion.proofs.claim.NoWayBack.{kept_in_row, Stays-from_row, longer_push, AreNamed-push, named_vertex}
+use Rattle.pg_dominion.proofs.claim.NoWayBack.{kept_in_row, LeadsToListed-from_row, longer_push, AreNamed-push, named_vertex}
 use Rattle.pg_dominion.proofs.claim.expand.Goals.{then-priority-top-via-then-priority-top, then-priority-top-via-else-priority-top+then-contains}
 use Rattle.pg_dominion.proofs.claim.expand.Goals as goal
 
@@ -21,7 +21,7 @@ returns-clause-stays c = λ _.
     let right : IsRightRow g claim.player (c.args.v, c.in-Some.choice)
     = subst (λ (o : Option ℕ). IsRightRow g claim.player (c.args.v, o)) e
     (named_right g claim.player claim.rows c.args.v c.requires.shape.right.each c.requires.vertex) in
-    Stays-from_row g claim.player claim.rows c.args.start c.ends.list.items c.args.v c.kept_successors-ends.result.now c.ends.end-index
+    LeadsToListed-from_row g claim.player claim.rows c.args.start c.ends.list.items c.args.v c.kept_successors-ends.result.now c.ends.end-index
     (c.kept_successors-ends.ensures ∙ kept_in_row g claim.player claim.rows c.args.v c.in-Some.choice right e)
     (omega (arith, c.ends-test.false)) c.ends.invariant.stays
 

@@ -12,7 +12,7 @@ returns-then-row-least-clause-fault c =
     (wrong_next c.args.game.now c.args.claim.now.player c.as_slice-rows.result.now q.row-index q.least q.invariant.checked c.rows-test.true
     (λ right up. elim c.then-row-least.branch [
       | then-row-least-via-then-row-least w ↦ omega (arith, up, w.if-row-least.true)
-      | then-row-least-via-else-row-least+then-not-is_right_row w ↦ w.is_right_row.ensures.wrong (search rules) right
+      | then-row-least-via-else-row-least+then-not-is_right_row w ↦ (let t = w.is_right_row.ensures.1 right in search rules)
     ]))
 
 pub rows-init : goal.rows-init
@@ -28,7 +28,7 @@ rows-preserved c =
     let rows = c.as_slice-rows.result.now in
     record {
       checked = right_before_next c.args.game.now c.args.claim.now.player rows q.row-index q.least q.invariant.checked c.rows-test.true
-          (c.is_right_row.ensures.right (search rules)) (omega (arith, c.if-row-least.false));
+          (c.is_right_row.ensures.0 (search rules)) (omega (arith, c.if-row-least.false));
       place = omega (arith, q.invariant.place);
       bad = search (rules, q.invariant.bad, drop-cons, c.rows-test.true, c.is_bad-bad.ensures, or_assoc);
     }

@@ -1,6 +1,6 @@
 use Rattle.pg_dominion.proofs.Common.{◌≡◌, ◌<◌, ℕ, length, slice_index, sym, ◌∙◌, ap, subst, arith, below_more, length-append, get_or_append_left, get_or_read}
-use Rattle.pg_dominion.proofs.Common.{In, named, Stays}
-use Rattle.pg_dominion.proofs.claim.NoWayBack.{Stays-longer, none_returns}
+use Rattle.pg_dominion.proofs.Common.{In, named, LeadsToListed}
+use Rattle.pg_dominion.proofs.claim.NoWayBack.{LeadsToListed-longer, none_returns}
 use Rattle.pg_dominion.proofs.claim.never_returns.Goals as goal
 
 pub returns-then-next-len : goal.returns-then-next-len
@@ -26,15 +26,15 @@ list-preserved c =
     let l : c.list.next < length q = omega arith in
     let e : c.index-v.result.now ≡ slice_index q c.list.next = get_or_read q c.list.next _ l c.index-v.ensures 0 in
     let more = h.longer.0 in
-    let later : (x : ℕ) → Stays g claim.player claim.rows c.args.start q x → Stays g claim.player claim.rows c.args.start q' x
-    = λ x s. rw h.longer.1 (Stays-longer g claim.player claim.rows c.args.start q more x s) in
+    let later : (x : ℕ) → LeadsToListed g claim.player claim.rows c.args.start q x → LeadsToListed g claim.player claim.rows c.args.start q' x
+    = λ x s. rw h.longer.1 (LeadsToListed-longer g claim.player claim.rows c.args.start q more x s) in
     let same : (i : ℕ) → i < length q → slice_index q' i ≡ slice_index q i = λ i li. rw h.longer.1 (get_or_append_left q more 0 i li) in
     record {
       all = h.named;
       first = later c.args.start c.list.invariant.first;
       rest = below_more _ _
-          (λ i li. subst (λ (x : ℕ). Stays g claim.player claim.rows c.args.start q' x) (sym (same i (omega (arith, c.list.invariant.within))))
+          (λ i li. subst (λ (x : ℕ). LeadsToListed g claim.player claim.rows c.args.start q' x) (sym (same i (omega (arith, c.list.invariant.within))))
           (later (slice_index q i) (c.list.invariant.rest i li)))
-          (subst (λ (x : ℕ). Stays g claim.player claim.rows c.args.start q' x) (e ∙ sym (same c.list.next l)) (h.stays c.if-not-branch-2.false));
+          (subst (λ (x : ℕ). LeadsToListed g claim.player claim.rows c.args.start q' x) (e ∙ sym (same c.list.next l)) (h.stays c.if-not-branch-2.false));
       within = omega (arith, l, ap length h.longer.1, length-append q more);
     }

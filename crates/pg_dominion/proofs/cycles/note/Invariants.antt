@@ -1,7 +1,8 @@
-use Rattle.pg_dominion.proofs.Common.{AreNoted}
+use Rattle.pg_dominion.proofs.Common.{AreNoted, label_lists, reached_lists}
 use Rattle.pg_dominion.proofs.cycles.note.Given as goal
 
 abbrev pub invariant-queue : goal.invariant-queue
 invariant-queue l =
-    AreNoted l.fn.levels.items l.fn.groups.items l.search.places.items l.search.queue.items l.level l.start l.search.first_repeated l.at
-    l.levels.items l.groups.items
+    AreNoted (label_lists l.fn.levels.items l.fn.groups.items)
+    (reached_lists l.search.places.items l.search.queue.items l.search.first_repeated) l.level l.start l.at
+    (label_lists l.levels.items l.groups.items)

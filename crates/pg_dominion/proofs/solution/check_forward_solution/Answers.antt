@@ -12,12 +12,12 @@ returns-in-Some-2-clause-fails c =
     let same = c.in_ok-kept.ensures.bad_cycle leaves in (
       c.in-Some-2.v,
       c.id-in-Some-2.ensures,
-      (
-        c.in_default.ensures,
-        c.in_default-first_bad_choice.ensures,
-        leaves,
-        record { has = (same c.in-Some-2.v).0 h.has; least = λ u b. h.least u ((same u).1 b) },
-      ),
+      record {
+        choices = c.in_default.ensures;
+        edges = c.in_default-first_bad_choice.ensures;
+        stays = leaves;
+        first = record { has = (same c.in-Some-2.v).0 h.has; least = λ u b. h.least u ((same u).1 b) };
+      },
     )
 
 pub returns-clause-holds : goal.returns-clause-holds
@@ -33,11 +33,11 @@ returns-clause-holds c =
 pub returns-in-Some-clause-fails : goal.returns-in-Some-clause-fails
 returns-in-Some-clause-fails c = (c.in-Some.v, c.id.ensures, c.in-Some.ensures)
 
-pub plan_of-requires-clause-choices : goal.plan_of-requires-clause-choices
-plan_of-requires-clause-choices c = c.in_default.ensures
+pub joint_strategy-requires-clause-choices : goal.joint_strategy-requires-clause-choices
+joint_strategy-requires-clause-choices c = c.in_default.ensures
 
-pub plan_of-requires-clause-right : goal.plan_of-requires-clause-right
-plan_of-requires-clause-right c = c.in_default-first_bad_choice.ensures
+pub joint_strategy-requires-clause-right : goal.joint_strategy-requires-clause-right
+joint_strategy-requires-clause-right c = c.in_default-first_bad_choice.ensures
 
 pub returns-in-Some-first_bad_choice-clause-fails : goal.returns-in-Some-first_bad_choice-clause-fails
 returns-in-Some-first_bad_choice-clause-fails c =
@@ -46,10 +46,10 @@ returns-in-Some-first_bad_choice-clause-fails c =
 pub returns-in-Some-first_leaving-clause-fails : goal.returns-in-Some-first_leaving-clause-fails
 returns-in-Some-first_leaving-clause-fails c =
     let e = c.in-Some-first_leaving in
-    let first = subst (λ (g : Graph). IsFirstLeaving g c.args.solution.now.rows e.v e.w) c.in_ok-kept.ensures.game e.ensures.first in (
-      e.v,
-      e.w,
-      c.id-in-Some-first_leaving.ensures,
-      c.id-in-Some-first_leaving-2.ensures,
-      (c.in_default.ensures, c.in_default-first_bad_choice.ensures, first),
-    )
+    let first = subst (λ (g : Graph). IsFirstLeaving g c.args.solution.now.rows e.v e.w) c.in_ok-kept.ensures.game e.ensures.first in record {
+      v = e.v;
+      w = e.w;
+      id_is = c.id-from.ensures;
+      to_is = c.id-to.ensures;
+      fails = record { choices = c.in_default.ensures; edges = c.in_default-first_bad_choice.ensures; first = first };
+    }

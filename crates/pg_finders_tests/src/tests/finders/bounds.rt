@@ -133,7 +133,7 @@ fn rows_of(solved: &Solved) -> (&[Row], &[Row]) {
 /// The claims with so many steps are those without a bound, or there are none.
 fn assert_within(rt: &impl Abort, alloc: Global, inside: &Inside, steps: u64, is_enough: bool) {
     let claims = made(rt, zielonka(alloc, inside));
-    match made(rt, zielonka_within(alloc, inside, steps)) {
+    match made(rt, zielonka_within(alloc, inside, Some(steps))) {
         Some(solved) => {
             check!(*rt; is_enough, steps);
             check_eq!(*rt; rows_of(&solved), rows_of(&claims), steps);

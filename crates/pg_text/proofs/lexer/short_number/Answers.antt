@@ -1,5 +1,5 @@
 use Rattle.std.proofs.Common.{rules}
-use Rattle.pg_text.proofs.Common.{◌≡◌, ◌+◌, ◌++◌, ◌∷◌, [], ℕ, get_or, sym, subst, ◌∙◌, arith, true, is_digit, IsRun}
+use Rattle.pg_text.proofs.Common.{◌≡◌, ◌+◌, ◌++◌, ◌∷◌, [], ℕ, get_or, sym, subst, ◌∙◌, arith, true, false, drop_more, is_digit, IsRun}
 use Rattle.pg_text.proofs.lexer.ByteRuns.{run_more, digits_more}
 use Rattle.pg_text.proofs.lexer.short_number.Goals as goal
 
@@ -17,5 +17,11 @@ digits-preserved c =
 pub overflow_cast-result : goal.overflow_cast-result
 overflow_cast-result c = search rules
 
-pub returns-then-not-is_digit-clause-run : goal.returns-then-not-is_digit-clause-run
-returns-then-not-is_digit-clause-run c = search rules
+pub returns-then-not-is_digit : goal.returns-then-not-is_digit
+returns-then-not-is_digit c =
+    let none : is_digit (get_or c.args.text.now (c.args.from + c.digits.k) 0) ≡ false = search rules in
+    record {
+      run = search rules;
+      within = omega (arith, c.requires);
+      ends = rw (drop_more c.args.text.now (c.args.from + c.digits.k) 0 (omega (arith, c.digits-test.true, c.requires))) none;
+    }

@@ -20,7 +20,7 @@ tokens-preserved g c =
     let (l, ts, r, k) = c.tokens.invariant in
     let (t, i, takes) = c.in_ok-take.ensures c.tokens.at c.next_token-lexeme.ensures.token c.in_default.not-End c.in_default.not-Invalid in
     let s = takes ts k in (
-      c.next_token-lexeme.ensures.within,
+      c.next_token-lexeme.ensures.range.within,
       ts ++ placed t c.next_token-lexeme.result.from ∷ [],
       reaches_more c.args.text.now 0 c.tokens.at c.next_token-lexeme.result.from c.next_token-lexeme.result.to ts t r i,
       rw c.if-not-branch.false at s,

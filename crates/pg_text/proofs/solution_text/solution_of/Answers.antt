@@ -6,7 +6,7 @@ use Rattle.pg_text.proofs.solution_text.KnownLines.{passed_on}
 use Rattle.std.proofs.lemmas.Bool.{not-false}
 use Rattle.std.proofs.lemmas.List.Elements.{Contains-get_or}
 use Rattle.pg_text.proofs.solution_text.Identifiers.{some_at, number_at, line_home, choice_below}
-use Rattle.pg_text.proofs.writing.WrittenTexts.{all_from_places}
+use Rattle.pg_game.proofs.AllElements.{all_from_places}
 use Rattle.pg_text.proofs.solution_text.solution_of.Goals as goal
 
 no_line : WrittenSolutionLine

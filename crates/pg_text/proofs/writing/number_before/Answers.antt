@@ -6,8 +6,5 @@ use Rattle.pg_text.proofs.writing.number_before.Goals as goal
 pub write_digits-requires : goal.write_digits-requires
 write_digits-requires c = search (rules, length-decimal-le 10)
 
-pub returns-clause-near : goal.returns-clause-near
-returns-clause-near c = search (rules, length-decimal-le 10)
-
-pub returns-clause-written : goal.returns-clause-written
-returns-clause-written c = search (rules, decimal_is_numeral)
+pub returns : goal.returns
+returns c = search (rules, length-decimal-le 10, decimal_is_numeral)

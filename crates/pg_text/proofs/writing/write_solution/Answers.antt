@@ -2,7 +2,7 @@ use Rattle.pg_text.proofs.Common.{rules}
 use Rattle.pg_text.proofs.Common.{◌≡◌, ℕ, ◌+◌, ◌<◌, List, [], ◌∷◌, ◌++◌, length, drop, get_or, sym, ap, subst, arith, append_assoc, length-append, None}
 use Rattle.pg_text.proofs.Common.{drop_more, Even, Graph, vertex_at, SolutionRows, AreSolutionRows}
 use Rattle.pg_text.proofs.Common.{written_rows}
-use Rattle.pg_text.proofs.WrittenReads.{all_at}
+use Rattle.pg_game.proofs.AllElements.{all_at}
 use Rattle.pg_text.proofs.writing.Lengths.{short_solution}
 use Rattle.pg_text.proofs.writing.write_solution.Goals as goal
 

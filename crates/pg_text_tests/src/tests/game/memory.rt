@@ -9,7 +9,7 @@ ghost use Rattle.pg_game.specs.Specification.{AreNumbers};
 use crate::tests::asserting::made;
 use crate::tests::game::{
     EVEN, EXPECTED_IN_ORDER, EXPECTED_WITH_A_GAP, IN_ORDER, Row, WITH_A_GAP, add_flat,
-    flat_game_of, from_rows, game_of, look,
+    flat_game_of, from_builder, game_of, look,
 };
 use pg_game::{ForwardGame, Game, GameBuilder, GameFault, Mask, Memory};
 use std::alloc::Global;
@@ -76,7 +76,7 @@ fn many(alloc: Global, falls: bool, times: usize) -> Result<GameBuilder, Memory>
 fn game_of_many(alloc: Global, falls: bool, times: usize) -> Result<Game, GameFault>
     requires { times ≤ 2 }
 {
-    from_rows(alloc, many(alloc, falls, times)?)
+    from_builder(alloc, many(alloc, falls, times)?)
 }
 
 /// The same, made once more where memory was refused.
@@ -106,7 +106,7 @@ fn lists_twice(alloc: Global) -> Result<GameBuilder, Memory> {
 
 /// Their game without predecessors.
 fn forward_of_many(alloc: Global) -> Result<ForwardGame, GameFault> {
-    ForwardGame::from_rows(alloc, many(alloc, false, 1)?)
+    ForwardGame::from_builder(alloc, many(alloc, false, 1)?)
 }
 
 /// The same, made once more where memory was refused.

@@ -4,7 +4,7 @@ ghost use Rattle.std.specs.Prelude.{All};
 ghost use Rattle.pg_game.specs.Specification.{AreNumbers};
 
 use crate::tests::asserting::made;
-use crate::tests::game::{EVEN, Expected, ODD, from_rows, look};
+use crate::tests::game::{EVEN, Expected, ODD, from_builder, look};
 use pg_game::{Game, GameFault, IncrementalBuilder, Player};
 use std::alloc::Global;
 use std::process::Abort;
@@ -41,7 +41,7 @@ fn closed(rt: &impl Abort, alloc: Global) -> Result<Game, GameFault> {
     close_two(rt, &mut specs, 0, 3, ODD, (0, 1));
     close_two(rt, &mut specs, 1, 4, EVEN, (1, 0));
     specs.push(7).expect(rt, "memory");
-    from_rows(alloc, specs.finish())
+    from_builder(alloc, specs.into_builder())
 }
 
 #[test]

@@ -37,7 +37,7 @@ fn pushed(alloc: Global) -> Result<Game, GameFault> {
     let mut specs = GameBuilder::with_capacity(alloc, 2, 3)?;
     specs.push(0, 2, Player::Even, [0, 1].as_slice())?;
     specs.push(1, 1, Player::Odd, [1].as_slice())?;
-    let forward = ForwardGame::from_rows(alloc, specs)?;
+    let forward = ForwardGame::from_builder(alloc, specs)?;
     let game = Game::of_forward(alloc, forward)?;
     Ok(game)
 }
@@ -55,7 +55,7 @@ fn pushed_one_by_one(alloc: Global) -> Result<Game, GameFault> {
     specs.close(0, 2, Player::Even)?;
     specs.push(1)?;
     specs.close(1, 1, Player::Odd)?;
-    let forward = ForwardGame::from_rows(alloc, specs.finish())?;
+    let forward = ForwardGame::from_builder(alloc, specs.into_builder())?;
     Ok(Game::of_forward(alloc, forward)?)
 }
 

@@ -18,8 +18,12 @@ with_rows-requires-clause-prefix g c =
     let series = ap (λ s. s.total) c.requires.jobs.0 in
     (n, omega arith, subst (λ (all : List (Vec ReportRow Global)). AreOfPrefix n (rows_in all)) (sym c.as_slice.ensures.value) prefix)
 
-pub returns-clause-numbered : goal.returns-clause-numbered
-returns-clause-numbered g c = placed_numbered _ _ _ c.in_ok-report.ensures.blank c.with_rows.ensures.placed
+pub returns-clause-order : goal.returns-clause-order
+returns-clause-order g c =
+    let numbered = placed_numbered _ _ _ c.in_ok-report.ensures.blank c.with_rows.ensures.placed in
+    let long = c.in_ok-report.ensures.rows.0 in let bound : ℕ = c.args.setup.now.options.now.bound in
+    let total = c.total-total.ensures.number ∙ ap (total_of bound) c.len.ensures.number ∙ sym c.requires.total.1 in
+    (omega (arith, c.with_rows.ensures.length), numbered)
 
 -- the rows of all workers say together how much their shares settled, which is what the board has beside the first share
 pub returns-clause-settled : goal.returns-clause-settled

@@ -8,19 +8,18 @@ loop-worker-preserved g c =
     let i = c.loop-worker.invariant in let worker = c.in-Some.worker in
     let popped = c.in-Some.ensures.cases in let a = c.push_reserved.ensures in
     let b = c.push_reserved-in-Some.ensures in let d = c.push_reserved-in-Some-2.ensures in
-    let p0 = i.0 in let p1 = i.1 in let p2 = i.2 in
-    let al = a.len in let bl = b.len in let dl = d.len in (
-      omega arith,
-      omega arith,
-      omega arith,
-      (let x = i.3 in let y = a.capacity in omega arith),
-      (let x = i.4 in let y = b.capacity in omega arith),
-      (let x = i.5 in let y = d.capacity in omega arith),
-      ap (map (λ rs. settled_in rs.items)) d.items ∙ map-append _ c.loop-worker.rows.items _ ∙ ap (λ l. l ++ settled_in worker.rows.items ∷ []) i.6 ∙ ap
-          (λ n. c.loop-worker.shares.items ++ n ∷ []) (sym worker.settled) ∙ sym a.items,
-      rw b.items (All-push (λ (t : HeldTicket). t.series ≡ g.J.RunJobs.series) c.loop-worker.tickets.items worker.ticket i.7 worker.of_jobs),
-      ap (map (λ rs. map (λ r. r.job) rs.items)) d.items ∙ map-append _ c.loop-worker.rows.items _ ∙ ap (λ l. l ++ jobs_in worker.rows.items ∷ []) i.8
+    record {
+      shares = omega (arith, i.shares, a.len);
+      tickets = omega (arith, i.tickets, b.len);
+      rows = omega (arith, i.rows, d.len);
+      spare_shares = omega (arith, i.spare_shares, a.capacity);
+      spare_tickets = omega (arith, i.spare_tickets, b.capacity);
+      spare_rows = omega (arith, i.spare_rows, d.capacity);
+      amounts = ap (map (λ rs. settled_in rs.items)) d.items ∙ map-append _ c.loop-worker.rows.items _ ∙ ap (λ l. l ++ settled_in worker.rows.items ∷ []) i.amounts ∙ ap
+          (λ n. c.loop-worker.shares.items ++ n ∷ []) (sym worker.settled) ∙ sym a.items;
+      of_jobs = rw b.items (All-push (λ (t : HeldTicket). t.series ≡ g.J.RunJobs.series) c.loop-worker.tickets.items worker.ticket i.of_jobs worker.of_jobs);
+      numbers = ap (map (λ rs. map (λ r. r.job) rs.items)) d.items ∙ map-append _ c.loop-worker.rows.items _ ∙ ap (λ l. l ++ jobs_in worker.rows.items ∷ []) i.numbers
           ∙ ap (λ n. map (λ (t : HeldTicket). t.numbers) c.loop-worker.tickets.items ++ n ∷ []) worker.numbers ∙ sym
-          (ap (map (λ (t : HeldTicket). t.numbers)) b.items ∙ map-append _ c.loop-worker.tickets.items _),
-      rw d.items (All-push (λ (rs : Vec ReportRow Global). All (IsDrawnRow g.J.RunJobs.workers) rs.items) c.loop-worker.rows.items worker.rows i.9 worker.done),
-    )
+          (ap (map (λ (t : HeldTicket). t.numbers)) b.items ∙ map-append _ c.loop-worker.tickets.items _);
+      done = rw d.items (All-push (λ (rs : Vec ReportRow Global). All (IsDrawnRow g.J.RunJobs.workers) rs.items) c.loop-worker.rows.items worker.rows i.done worker.done);
+    }

@@ -38,7 +38,7 @@ enum Step<'a> {
 }
 
 /// What the board has at the closing: how many vertices are settled, whether these are all, and how many of them by the
-/// workers 0, 1 and 64.
+/// workers 0, 1 and 2.
 type Closed = (u64, bool, (u64, u64, u64));
 
 /// A game, a claim that is posted by worker 0 before an office opens with the board, what a copy then has, the number of
@@ -71,8 +71,8 @@ pub const RUNS: &[Run] = &[
         steps: &[
             (0, Step::Put((1, EVEN, (0, Some(0)), Ok(2), 2, HALF))),
             (0, Step::Copy(HALF)),
-            (1, Step::Put((64, ODD, (2, Some(2)), Ok(1), 1, FULL))),
-            (1, Step::Put((64, ODD, (2, Some(2)), STALE, 1, FULL))),
+            (1, Step::Put((2, ODD, (2, Some(2)), Ok(1), 1, FULL))),
+            (1, Step::Put((2, ODD, (2, Some(2)), STALE, 1, FULL))),
             (0, Step::Copy(FULL)),
         ],
         closed: (3, true, (0, 2, 1)),
@@ -123,10 +123,10 @@ pub const RUNS: &[Run] = &[
         steps: &[
             (0, Step::Copy(NEW)),
             (0, Step::Put((1, EVEN, (0, Some(0)), Ok(2), 2, HALF))),
-            (1, Step::Put((64, EVEN, (0, Some(0)), STALE, 0, HALF))),
+            (1, Step::Put((2, EVEN, (0, Some(0)), STALE, 0, HALF))),
             (
                 1,
-                Step::Put((64, ODD, (1, Some(0)), Err(Refusal::Lost(1)), 0, HALF)),
+                Step::Put((2, ODD, (1, Some(0)), Err(Refusal::Lost(1)), 0, HALF)),
             ),
             (1, Step::Copy(HALF)),
         ],
@@ -364,7 +364,7 @@ fn compare_closed(rt: &impl Abort, board: &Board, want: &Closed) {
     let by = (
         board.settled_by(0),
         board.settled_by(1),
-        board.settled_by(64),
+        board.settled_by(2),
     );
     check_eq!(*rt; &(board.settled(), board.is_full(), by), want);
 }

@@ -44,17 +44,17 @@ returns-in_err-write_all-in-Help-clause-writes g c =
       failed = λ is. written.failed;
     }
 
-pub returns-in_err-solve_from_known-in-Some-clause-reads : goal.returns-in_err-solve_from_known-in-Some-clause-reads
-returns-in_err-solve_from_known-in-Some-clause-reads g c =
-    let p = err_from_is_err_and c.from_residual-in_err-solve_from_known-in-Some.result c.from_residual-in_err-solve_from_known-in-Some.ensures.1 in
-    rw (c.in-Solve.is, c.in-Some.is, p.1, p.2) (turns_err c.in_err-solve_from_known-in-Some.ensures.reads)
+pub returns-in_err-run_solve-in-Some-clause-reads : goal.returns-in_err-run_solve-in-Some-clause-reads
+returns-in_err-run_solve-in-Some-clause-reads g c =
+    let p = err_from_is_err_and c.from_residual-in_err-run_solve-in-Some.result c.from_residual-in_err-run_solve-in-Some.ensures.1 in
+    rw (c.in-Solve.is, c.in-Some.is, p.1, p.2) (turns_err c.in_err-run_solve-in-Some.ensures.reads)
 
-pub returns-in_err-solve_from_known-in-Some-clause-writes : goal.returns-in_err-solve_from_known-in-Some-clause-writes
-returns-in_err-solve_from_known-in-Some-clause-writes g c =
-    let p = err_from_is_err_and c.from_residual-in_err-solve_from_known-in-Some.result c.from_residual-in_err-solve_from_known-in-Some.ensures.1 in
-    rw (c.in-Solve.is, c.in-Some.is, p.1, p.2) (writes_err (λ _ text is. (0, (refl, is))) c.in_err-solve_from_known-in-Some.ensures.writes)
+pub returns-in_err-run_solve-in-Some-clause-writes : goal.returns-in_err-run_solve-in-Some-clause-writes
+returns-in_err-run_solve-in-Some-clause-writes g c =
+    let p = err_from_is_err_and c.from_residual-in_err-run_solve-in-Some.result c.from_residual-in_err-run_solve-in-Some.ensures.1 in
+    rw (c.in-Solve.is, c.in-Some.is, p.1, p.2) (writes_err (λ _ text is. (0, (refl, is))) c.in_err-run_solve-in-Some.ensures.writes)
 
-pub returns-in_err-solve_from_nothing-in-None-clause-writes : goal.returns-in_err-solve_from_nothing-in-None-clause-writes
-returns-in_err-solve_from_nothing-in-None-clause-writes g c =
-    let p = err_from_is_err_and c.from_residual-in_err-solve_from_nothing-in-None.result c.from_residual-in_err-solve_from_nothing-in-None.ensures.1 in
-    rw (c.in-Solve.is, c.in-None.is, p.1, p.2) (writes_err (λ _ text is. (0, (refl, is))) c.in_err-solve_from_nothing-in-None.ensures.writes)
+pub returns-in_err-run_solve-in-None-clause-writes : goal.returns-in_err-run_solve-in-None-clause-writes
+returns-in_err-run_solve-in-None-clause-writes g c =
+    let p = err_from_is_err_and c.from_residual-in_err-run_solve-in-None.result c.from_residual-in_err-run_solve-in-None.ensures.1 in
+    rw (c.in-Solve.is, c.in-None.is, p.1, p.2) (writes_err (λ _ text is. (0, (refl, is))) c.in_err-run_solve-in-None.ensures.writes)

@@ -7,18 +7,26 @@ use Rattle.pgboard_c.specs.Posting.{IsPostFault, claim_lists}
 use Rattle.pgboard_c.proofs.PostAnswers.{posted_of, refused_of}
 use Rattle.pgboard_c.proofs.board.post_on.Goals as goal
 
-pub returns-in-Ok-clause-posted : goal.returns-in-Ok-clause-posted
-returns-in-Ok-clause-posted c =
-    posted_of c.args.session.now c.post.new.self (claim_lists c.args.given.now) c.in_ok-claim.claim c.in-Ok.posted _ c.in_ok-claim.ensures.same
-    c.in_ok-claim.ensures.checked c.post.ensures.game c.in-Ok.ensures.posted c.in-Ok.ensures.old_copies refl (search rules) (search rules)
+pub returns-in-Ok : goal.returns-in-Ok
+returns-in-Ok c =
+    let s = c.args.session.now in let t = c.post.new.self in (
+      s,
+      t,
+      refl,
+      refl,
+      posted_of s.board t.board (claim_lists c.args.given.now) c.in_ok-claim.claim c.in-Ok.made _ c.in_ok-claim.ensures.same
+          c.in_ok-claim.ensures.checked c.in-Ok.ensures.answer refl (search rules) (search rules),
+    )
 
 pub fault_of-requires : goal.fault_of-requires
 fault_of-requires c = λ v e.
-    subst (λ (r : Refusal). Refuses c.args.session.now.graph (state_of c.args.session.now.journal) c.in_ok-claim.claim.player c.in_ok-claim.claim.rows r)
-    e c.in-Err.ensures.refused
+    let b = c.args.session.now.board in
+    subst (λ (r : Refusal). Refuses b.graph (state_of b.journal) c.in_ok-claim.claim.player c.in_ok-claim.claim.rows r) e c.in-Err.ensures.answer.refused
 
-pub returns-clause-fault : goal.returns-clause-fault
-returns-clause-fault c =
-    subst (λ (e : Fault). IsPostFault c.args.session.now (claim_lists c.args.given.now) e) (sym c.fault_of.ensures)
-    (inr (refused_of c.args.session.now c.post.new.self (claim_lists c.args.given.now) c.in_ok-claim.claim c.in-Err.refusal c.in_ok-claim.ensures.same
-    c.in_ok-claim.ensures.checked c.in-Err.ensures.unchanged c.in-Err.ensures.refused c.in-Err.ensures.old_copies))
+pub returns : goal.returns
+returns c =
+    let b = c.args.session.now.board in let given = claim_lists c.args.given.now in
+    let fault : IsPostFault b given c.fault_of.result = subst (λ (e : Fault). IsPostFault b given e) (sym c.fault_of.ensures)
+    (inr (refused_of b c.post.new.self.board given c.in_ok-claim.claim c.in-Err.refusal c.in_ok-claim.ensures.same
+    c.in_ok-claim.ensures.checked c.in-Err.ensures.answer)) in
+    (fault, search rules, refl)

@@ -1,5 +1,6 @@
-use Rattle.pg_board.proofs.Common.{◌≡◌, ◌∙◌, ℕ, length, sym, subst, ap, arith, List, Bool, fun_ext, Player, Graph, VertexSet, members, IsSubgame}
-use Rattle.pg_board.proofs.Common.{ClaimRows, IsGoodIn, BoardRecord, State, unsettled, state_of, IsDominionAfter, VertexState, table_state}
+use Rattle.pg_board.proofs.Common.{◌≡◌, ◌∙◌, ℕ, length, sym, subst, ap, arith, List, Bool, fun_ext, Graph, VertexSet, members, IsSubgame}
+use Rattle.pg_board.specs.Board.{IsCopyOf}
+use Rattle.pg_board.proofs.Common.{rules, IsGoodIn, BoardRecord, State, unsettled, state_of, IsDominionAfter, VertexState, table_state}
 use Rattle.pg_board.proofs.Numbers.{lawful_now}
 use Rattle.pg_board.proofs.Copies.{dominion_now}
 use Rattle.pg_board.proofs.board.Board.copy.Goals as goal
@@ -16,13 +17,18 @@ of_subgame-requires-clause-subgame c =
     (same_set g (state_of b.entries.items) b.regions.table.items b.regions.unsettled c.in_ok-mask.mask c.in_ok-mask.ensures i.regions.mask i.state)
     (lawful_now g b.entries.items i.lawful).open_part
 
-pub returns-clause-dominions : goal.returns-clause-dominions
-returns-clause-dominions c =
+pub returns : goal.returns
+returns c =
     let b = c.self.inside.contents in let g = c.self.inside.game.now in let i = c.self.invariant in
     let same = same_set g (state_of b.entries.items) b.regions.table.items b.regions.unsettled c.of_subgame.result.mask
     (c.of_subgame.ensures.mask ∙ c.in_ok-mask.ensures) i.regions.mask i.state in
-    let at : c.len.result ≡ length b.entries.items = omega (arith, c.len.ensures, b.entries.ok.0) in
-    subst (λ (x : BoardRecord). (p : Player) (rows : ClaimRows) → IsGoodIn x.graph (members c.of_subgame.result.mask) p rows
-    → IsDominionAfter x.graph x.journal c.len.result p rows) c.self.view_is
-    (λ p rows good. subst (λ (n : ℕ). IsDominionAfter g b.entries.items n p rows) (sym at)
-    (dominion_now g c.len-n.ensures.game b.entries.items i.lawful p rows (subst (λ (U : VertexSet). IsGoodIn g U p rows) (sym same) good)))
+    let entries : c.len.result ≡ length b.entries.items = omega (arith, c.len.ensures, b.entries.ok.0) in
+    subst (λ (x : BoardRecord). IsCopyOf x (record { inside = c.of_subgame.result; at = c.len.result; settled = c.settled.result })) c.self.view_is
+    (record {
+      graph = c.of_subgame.ensures.graph;
+      mask = λ v. sym (ap (λ (U : VertexSet). U v) same);
+      entries = entries;
+      number = search (rules, c.self.view_is);
+      dominions = λ p rows good. subst (λ (n : ℕ). IsDominionAfter g b.entries.items n p rows) (sym entries)
+          (dominion_now g c.len-n.ensures.game b.entries.items i.lawful p rows (subst (λ (U : VertexSet). IsGoodIn g U p rows) (sym same) good));
+    })

@@ -1,6 +1,13 @@
-use Rattle.pg_board.proofs.Common.{rules}
+use Rattle.pg_board.proofs.Common.{subst}
+use Rattle.pg_board.specs.Board.{IsLawfulBoard}
 use Rattle.pg_board.proofs.Numbers.{number_within}
 use Rattle.pg_board.proofs.board.Board.game.Goals as goal
 
-pub returns-clause-within : goal.returns-clause-within
-returns-clause-within c = search (rules, c.self.view_is, number_within, c.self.invariant.lawful)
+pub returns-clause-board : goal.returns-clause-board
+returns-clause-board c =
+    subst IsLawfulBoard c.self.view_is (record {
+      game = c.len-n.ensures.game;
+      limits = c.len-n.ensures.limits;
+      lawful = c.self.invariant.lawful;
+      within = number_within _ _ c.self.invariant.lawful;
+    })

@@ -1,5 +1,5 @@
 use Rattle.pg_board.proofs.Common.{refl}
-use Rattle.pg_board.proofs.OwnEntries.{same_continued, then_continued, continued}
+use Rattle.pg_board.proofs.OwnEntries.{same_continued}
 use Rattle.pg_board.proofs.board.Board.post_job.Goals as goal
 
 pub returns-in_err-copied : goal.returns-in_err-copied

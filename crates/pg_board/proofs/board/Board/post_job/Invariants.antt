@@ -1,4 +1,3 @@
-use Rattle.std.proofs.Common.{◌≡◌}
 use Rattle.pg_board.specs.Finish.{IsContinued}
 use Rattle.pg_board.proofs.board.Board.post_job.Given as goal
 

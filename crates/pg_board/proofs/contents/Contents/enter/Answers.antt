@@ -3,7 +3,7 @@ use Rattle.pg_board.proofs.Common.{Journal, IsBoard, ◌∙◌}
 use Rattle.std.specs.Prelude.{nat_eq}
 use Rattle.pg_board.proofs.RestIsGood.{vertices}
 use Rattle.pg_board.proofs.contents.EntryOfRest.{IsEntering, HasGrown, HasRows, open_subgame, rest_distinct, rest_within, entry_answers, grown_fits, board_entered}
-use Rattle.pg_board.proofs.contents.EntryOfRest.{has_grown, IsGrowing-more, few, none_left}
+use Rattle.pg_board.proofs.contents.EntryOfRest.{has_grown, HasWritten-more, few, none_left}
 use Rattle.pg_board.proofs.contents.Contents.enter.Goals.{After-len-claimed, After-len-settled, After-push_reserved}
 use Rattle.pg_board.proofs.contents.Contents.enter.Goals as goal
 
@@ -20,8 +20,8 @@ entering c = record {
 grown : (c : After-len-settled)
     → HasGrown c.args.game.now c.args.player c.args.self.now.regions c.attract.new.self c.args.rows.items c.attract.new.rows.items
 grown c =
-    let settled = c.settle_rows.ensures in let attracted = c.attract.ensures in
-    has_grown c.args.game.now c.args.player c.settle_rows.new.self c.attract.new.self c.args.rows.items c.attract.new.rows.items attracted.grows
+    let settled = c.write_rows.ensures in let attracted = c.attract.ensures in
+    has_grown c.args.game.now c.args.player c.write_rows.new.self c.attract.new.self c.args.rows.items c.attract.new.rows.items attracted.grows
     c.args.self.now.regions c.as_slice.result.now c.as_slice.ensures.value settled.same settled.written attracted.growing.regions attracted.done
 
 -- the number of the rows
@@ -40,21 +40,21 @@ settled_is c =
     omega (arith, copied, c.len-settled.ensures, c.shrink_to_fit.new.self.ok.0)
 
 pub attract-requires-clause-growing : goal.attract-requires-clause-growing
-attract-requires-clause-growing c = search (rules, c.requires.spare, c.as_slice.ensures.value, IsGrowing-more, c.settle_rows.ensures.growing)
+attract-requires-clause-growing c = search (rules, c.requires.spare, c.as_slice.ensures.value, HasWritten-more, c.write_rows.ensures.growing)
 
-pub settle_rows-requires-clause-unsettled : goal.settle_rows-requires-clause-unsettled
-settle_rows-requires-clause-unsettled c =
-    search (rules, entering, c.as_slice.ensures.value, rest_within, entering (goal.at.settle_rows-requires-clause-unsettled c).After-len-claimed)
+pub write_rows-requires-clause-unsettled : goal.write_rows-requires-clause-unsettled
+write_rows-requires-clause-unsettled c =
+    search (rules, entering, c.as_slice.ensures.value, rest_within, entering (goal.at.write_rows-requires-clause-unsettled c).After-len-claimed)
 
-pub settle_rows-requires-clause-distinct : goal.settle_rows-requires-clause-distinct
-settle_rows-requires-clause-distinct c =
+pub write_rows-requires-clause-distinct : goal.write_rows-requires-clause-distinct
+write_rows-requires-clause-distinct c =
     subst (λ (xs : ClaimRows). IsDistinct nat_eq (vertices xs)) (sym c.as_slice.ensures.value)
-    (rest_distinct (entering (goal.at.settle_rows-requires-clause-distinct c).After-len-claimed))
+    (rest_distinct (entering (goal.at.write_rows-requires-clause-distinct c).After-len-claimed))
 
 pub attract-requires-clause-subgame : goal.attract-requires-clause-subgame
 attract-requires-clause-subgame c =
-    open_subgame (entering (goal.at.attract-requires-clause-subgame c).After-len-claimed) c.settle_rows.new.self c.as_slice.result.now
-    c.as_slice.ensures.value c.settle_rows.ensures.same
+    open_subgame (entering (goal.at.attract-requires-clause-subgame c).After-len-claimed) c.write_rows.new.self c.as_slice.result.now
+    c.as_slice.ensures.value c.write_rows.ensures.same
 
 pub overflow_cast-claimed : goal.overflow_cast-claimed
 overflow_cast-claimed c =
@@ -99,6 +99,6 @@ overflow_add-is_full c =
 
 pub attract-requires-clause-full : goal.attract-requires-clause-full
 attract-requires-clause-full c =
-    none_left (entering (goal.at.attract-requires-clause-full c).After-len-claimed) c.settle_rows.new.self c.as_slice.result.now
-    c.as_slice.ensures.value c.settle_rows.ensures.same c.settle_rows.ensures.growing.apart (c.len-claimed.ensures ∙ c.args.rows.ok.0)
+    none_left (entering (goal.at.attract-requires-clause-full c).After-len-claimed) c.write_rows.new.self c.as_slice.result.now
+    c.as_slice.ensures.value c.write_rows.ensures.same c.write_rows.ensures.growing.apart (c.len-claimed.ensures ∙ c.args.rows.ok.0)
     c.len-n.ensures.number

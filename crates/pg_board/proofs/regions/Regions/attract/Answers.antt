@@ -1,6 +1,6 @@
 use Rattle.pg_board.proofs.Common.{rules}
 use Rattle.pg_dominion.proofs.AttractionSteps.{IsDone-none}
-use Rattle.pg_board.proofs.regions.GrowthSteps.{none_further}
+use Rattle.pg_board.proofs.regions.WrittenRowSteps.{none_further}
 use Rattle.pg_board.proofs.regions.Regions.attract.Goals as goal
 
 pub attract_from-requires-clause-done : goal.attract_from-requires-clause-done

@@ -1,9 +1,9 @@
 use Rattle.pg_board.proofs.Common.{rules, ap, members}
-use Rattle.pg_board.proofs.regions.GrowthSteps.{IsGrowing-same}
+use Rattle.pg_board.proofs.regions.WrittenRowSteps.{HasWritten-same}
 use Rattle.pg_board.proofs.regions.RegionsAttractorState.find_way_out.Goals as goal
 
 pub returns-clause-ready : goal.returns-clause-ready
-returns-clause-ready c = search (rules, IsGrowing-same, c.move_watch.ensures.regions, c.requires.ready)
+returns-clause-ready c = search (rules, HasWritten-same, c.move_watch.ensures.regions, c.requires.ready)
 
 pub returns-clause-grown : goal.returns-clause-grown
 returns-clause-grown c p = search (rules, c.move_watch.ensures)

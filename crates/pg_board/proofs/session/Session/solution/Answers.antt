@@ -1,10 +1,13 @@
-use Rattle.pg_board.proofs.Common.{◌∙◌, subst, ap, ◌↔◌, Graph, Journal, BoardRecord, state_of, IsFull}
-use Rattle.std.proofs.Common.{IfOk, IsSome}
+use Rattle.pg_board.proofs.Common.{◌≡◌, ◌∙◌, subst, ap, Graph, BoardRecord}
+use Rattle.std.proofs.Common.{IfOk}
+use Rattle.pg_board.specs.Board.{IsSolutionOf}
+use Rattle.pg_board.specs.SessionRecord.{SessionRecord}
+use Rattle.pg_board.specs.private.Contents.{board_record}
 use Rattle.pg_board.proofs.session.Session.solution.Goals as goal
 
-pub returns-clause-full : goal.returns-clause-full
-returns-clause-full c =
-    subst (λ (g : Graph). IfOk c.solution.result (λ found. IsSome found ↔ IsFull g (state_of c.args.self.now.journal)))
-    (c.deref.ensures ∙ ap (λ (x : BoardRecord). x.graph) c.self.view_is)
-    (subst (λ (j : Journal). IfOk c.solution.result (λ found. IsSome found ↔ IsFull c.deref.result.now (state_of j)))
-    (ap (λ (x : BoardRecord). x.journal) c.contents.ensures.same) c.solution.ensures.full)
+pub returns : goal.returns
+returns c =
+    let own : board_record c.deref.result.now c.contents.result.now ≡ c.args.self.now.board =
+    ap (λ (g : Graph). board_record g c.contents.result.now) (c.deref.ensures ∙ ap (λ (x : SessionRecord). x.board.graph) c.self.view_is)
+    ∙ c.contents.ensures.same in
+    subst (λ (b : BoardRecord). IfOk c.solution.result (IsSolutionOf b)) own c.solution.ensures

@@ -14,14 +14,14 @@ queue-preserved c =
     let L = c.args.self.now.levels.items in
     let G = c.args.self.now.groups.items in
     record {
-      least = h.least;
-      state = h.state;
+      least = h.state.least;
+      state = h.state.state;
       later = GoesOn-then _ old.queue.items new.queue.items _ old.first_repeated new.first_repeated c.queue.invariant.later h.later;
       within = omega (arith, h.later.longer);
       spread = below_more _ _
           (λ i l. IsSpread-later k L G c.args.top c.args.own old.places.items old.queue.items new.places.items new.queue.items old.first_repeated
           new.first_repeated i
-          (omega arith) h.later h.state (c.queue.invariant.spread i l))
+          (omega arith) h.later h.state.state (c.queue.invariant.spread i l))
           (h.spread c.if-branch.false);
     }
 

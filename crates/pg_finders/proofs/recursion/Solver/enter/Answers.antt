@@ -3,7 +3,7 @@ use Rattle.pg_finders.proofs.Common.{members, Frame, settled_of, AllStand, winne
 use Rattle.pg_finders.proofs.Sets.{only}
 use Rattle.pg_finders.proofs.recursion.ListsAsSets.{some_length}
 use Rattle.pg_finders.proofs.SolvedSubgames.{back_equal, left_subgame}
-use Rattle.pg_finders.proofs.recursion.LoopSteps.{Begins, under_way_begin, stops_now, inside_now}
+use Rattle.pg_finders.proofs.recursion.LoopSteps.{Begins, open_levels_begin, stops_now, inside_now}
 use Rattle.pg_finders.proofs.recursion.StepBounds.{placed_push}
 use Rattle.pg_finders.proofs.recursion.ActivePart.{enters_fewer}
 use Rattle.pg_finders.proofs.recursion.Solver.enter.Goals as goal
@@ -54,7 +54,7 @@ begins : (c : After) → Begins c.args.view.now.game.now (members c.args.view.no
     (winners_of c.args.self.now.subgame.plan) (winners_of c.begin.new.self.plan) (choices_of c.args.self.now.subgame.plan)
     (choices_of c.begin.new.self.plan)
 begins c = record {
-  under_way = c.requires.under_way;
+  open_levels = c.requires.open_levels;
   within = λ v i. (only (A c v) (C c v) (sym (c.in_ok-begin.ensures.listed v) ∙ i)).0;
   once = c.in_ok-begin.ensures.ready.once;
   left = λ v. sym (back_equal (A c v) (C c v) ((begun c).within v)) ∙ ap (λ b. A c v && not b) (sym (c.in_ok-begin.ensures.listed v));
@@ -103,7 +103,7 @@ returns-clause-running c =
         stand = λ v i. order.stand v (c.in_ok-begin.ensures.fewer v i);
       };
       placed = rw (frames, aside_is c) (placed c);
-      under_way = rw (frames, aside_is c) (under_way_begin (begins c));
+      open_levels = rw (frames, aside_is c) (open_levels_begin (begins c));
     }
 
 pub returns-clause-fewer : goal.returns-clause-fewer

@@ -1,7 +1,8 @@
-use Rattle.pg_finders.proofs.Common.{◌≡◌, map, refl, sym, ◌∙◌, subst, members, IsSubgame, settled_of, IsOrder, level_at, AllPlaced}
-use Rattle.pg_finders.proofs.Sizes.{size_is}
+use Rattle.pg_finders.proofs.Common.{◌≡◌, length, size, map, refl, sym, ◌∙◌, subst, members, IsSubgame, settled_of, IsOrder, level_at, AllPlaced}
+use Rattle.pg_finders.proofs.Sizes.{size_is, size_below}
+use Rattle.pg_finders.proofs.recursion.StepBounds.{work_start}
 use Rattle.pg_finders.proofs.DeadEnds.{subgame_of}
-use Rattle.pg_finders.proofs.recursion.LoopSteps.{under_way_start}
+use Rattle.pg_finders.proofs.recursion.LoopSteps.{open_levels_start}
 use Rattle.pg_finders.proofs.recursion.Solver.new.Goals as goal
 
 pub returns-clause-running : goal.returns-clause-running
@@ -17,5 +18,10 @@ returns-clause-running c =
       placed = subst (λ fs. AllPlaced c.in_ok-order.order.vertices.items
           (map (level_at (members c.args.view.now.mask.now) (settled_of c.in_ok-settled.settled) c.in_ok-set_aside.set_aside.items) fs) fs)
           (sym c.in_ok-frames.ensures.items) tt;
-      under_way = under_way_start (λ v. rw e refl) c.in_ok-settled.ensures c.in_ok-set_aside.ensures.items c.in_ok-frames.ensures.items;
+      open_levels = open_levels_start (λ v. rw e refl) c.in_ok-settled.ensures c.in_ok-set_aside.ensures.items c.in_ok-frames.ensures.items;
     }
+
+pub returns-clause-work : goal.returns-clause-work
+returns-clause-work c =
+    let mask = c.args.view.now.mask.now in
+    work_start (size mask) _ (length mask) _ (size_below mask) c.in_ok-frames.ensures.items

@@ -1,7 +1,7 @@
 use Rattle.pg_finders.proofs.Common.{◌≡◌, ℕ, ◌<◌, ◌≤◌, length, take, sym, ◌∙◌, ap, subst, rules, IsNonDecreasingBy, Player, opponent, VertexSet, In}
-use Rattle.pg_finders.proofs.Common.{members, union, priority_of, Plan, listed, Once, SettledLists, settled_of, AreDistinct, AreVertices, active_of, IsGrown}
+use Rattle.pg_finders.proofs.Common.{members, union, priority_of, Plan, listed, Once, SettledLists, settled_of, AreDistinct, AreVertices, active_of, HasTaken}
 use Rattle.pg_finders.proofs.Common.{AttractsNoActive, gone, count_at, level_at, AllPlaced}
-use Rattle.pg_finders.specs.private.recursion.Planned.{HasSize}
+use Rattle.pg_finders.specs.private.recursion.Plans.{HasSize}
 use Rattle.pg_finders.proofs.Sets.{twice}
 use Rattle.pg_finders.proofs.Masks.{inside_mask}
 use Rattle.pg_finders.proofs.recursion.ListsAsSets.{all_below}
@@ -17,10 +17,10 @@ Start = goal.After-reopen-arg-1
 
 fits : (c : Start) → ((p : Player) → count_at c.args.frame p ≤ length (settled_of c.args.self.now.settled p))
     × (c.args.frame.set_aside ≤ length c.args.self.now.set_aside.items)
-fits c = stop_fits c.args.self.now.frames.items c.args.frame c.requires.running.under_way
+fits c = stop_fits c.args.self.now.frames.items c.args.frame c.requires.running.open_levels
 
 below : (c : Start) (v : ℕ) → In (gone (settled_of c.args.self.now.settled) c.args.self.now.set_aside.items) v → v < length c.args.self.now.subgame.active
-below c v i = search (rules, c.requires.running.inside_length, c.requires.running.sizes.active, inside_mask, c.requires.running.under_way.listed_inside)
+below c v i = search (rules, c.requires.running.inside_length, c.requires.running.sizes.active, inside_mask, c.requires.running.open_levels.listed_inside)
 
 pub reopen-requires-clause-set_aside : goal.reopen-requires-clause-set_aside
 reopen-requires-clause-set_aside c = (fits c).1
@@ -56,7 +56,7 @@ attract-requires-clause-ready c =
         cursors = ap (λ s. length s.subgame.cursors.places.items) r.same ∙ c.requires.running.sizes.cursors;
         plan = subst (HasSize (length c.args.view.now.game.now)) (sym (ap (λ s. s.subgame.plan) r.same)) c.requires.running.sizes.plan;
       };
-      once = subst Once (sym (same_lost c)) (c.requires.running.under_way.apart.settled_once (opponent c.args.frame.player));
+      once = subst Once (sym (same_lost c)) (c.requires.running.open_levels.apart.settled_once (opponent c.args.frame.player));
       apart = λ v i. reopened_apart (ended c) (active_of c.reopen.new.self.subgame) r.active v (subst (λ xs. In (listed xs) v) (same_lost c) i);
     }
 
@@ -67,14 +67,14 @@ attract-requires-clause-known c =
     rw (c.other-other.ensures, plan, r.other) (reopened_known (ended c) (active_of c.reopen.new.self.subgame) r.active)
 
 pub attract-requires-clause-place : goal.attract-requires-clause-place
-attract-requires-clause-place c = rw (c.deref.ensures.value, aside_is c) (stop_fits c.args.self.now.frames.items c.args.frame c.requires.running.under_way).1
+attract-requires-clause-place c = rw (c.deref.ensures.value, aside_is c) (stop_fits c.args.self.now.frames.items c.args.frame c.requires.running.open_levels).1
 
 pub attract-requires-clause-below : goal.attract-requires-clause-below
 attract-requires-clause-below c =
     let x = c.args.self.now in
     rw (c.deref.ensures.value, aside_is c)
     (all_below (length c.args.view.now.game.now) x.set_aside.items (λ v i. subst (λ n. v < n) c.requires.running.inside_length
-    (inside_mask c.args.view.now.mask.now v (c.requires.running.under_way.listed_inside v (gone_aside (settled_of x.settled) x.set_aside.items v i)))))
+    (inside_mask c.args.view.now.mask.now v (c.requires.running.open_levels.listed_inside v (gone_aside (settled_of x.settled) x.set_aside.items v i)))))
 
 pub attract-requires-clause-at_most : goal.attract-requires-clause-at_most
 attract-requires-clause-at_most c =
@@ -113,10 +113,10 @@ retakes c =
     let q : c.other-other.result ≡ lost c = c.other-other.ensures in
     record {
       some = c.requires.some;
-      grown = subst (λ plan. IsGrown g (lost c) (A c) plan (settled_of c.args.self.now.settled (lost c)) (C c) (retaken c) (now c (lost c)))
+      grown = subst (λ plan. HasTaken g (lost c) (A c) plan (settled_of c.args.self.now.settled (lost c)) (C c) (retaken c) (now c (lost c)))
           (ap (λ s. s.subgame.plan) r.same)
-          (subst (λ xs. IsGrown g (lost c) (A c) c.reopen.new.self.subgame.plan xs (C c) (retaken c) (now c (lost c))) r.other
-          (subst (λ p. IsGrown g p (A c) c.reopen.new.self.subgame.plan (settled_of c.reopen.new.self.settled p) (C c) (retaken c) (now c p)) q h.grown));
+          (subst (λ xs. HasTaken g (lost c) (A c) c.reopen.new.self.subgame.plan xs (C c) (retaken c) (now c (lost c))) r.other
+          (subst (λ p. HasTaken g p (A c) c.reopen.new.self.subgame.plan (settled_of c.reopen.new.self.settled p) (C c) (retaken c) (now c p)) q h.grown));
       done = subst (λ xs. AttractsNoActive g (lost c) (union (A c) (listed xs)) (listed (now c (lost c))) (C c)) r.other
           (subst (λ p. AttractsNoActive g p (union (A c) (listed (settled_of c.reopen.new.self.settled p))) (listed (now c p)) (C c)) q h.done);
       once = subst (λ p. Once (now c p)) q h.ready.once;
@@ -161,7 +161,7 @@ returns-clause-running c =
       };
       placed = rw (stops_are c, set_aside c, vertices_are c) (subst (λ ls. AllPlaced x.order.vertices.items ls x.frames.items) (sym (finished c).kept)
           popped.0);
-      under_way = rw (stops_are c, set_aside c) (finished c).under_way;
+      open_levels = rw (stops_are c, set_aside c) (finished c).open_levels;
     }
 
 pub returns-clause-fewer : goal.returns-clause-fewer

@@ -1,9 +1,9 @@
 use Rattle.pg_finders.proofs.Common.{◌≡◌, [], arith, nil_from_length}
-use Rattle.pg_finders.proofs.recursion.LoopSteps.{under_way_done}
+use Rattle.pg_finders.proofs.recursion.LoopSteps.{open_levels_done}
 use Rattle.pg_finders.proofs.recursion.Solver.run.Goals as goal
 
 pub returns-clause-solved : goal.returns-clause-solved
 returns-clause-solved c _ =
     let x = c.enter.new.self in
     let none : x.frames.items ≡ [] = nil_from_length x.frames.items (omega (arith, c.in_default.ensures.cases.0, x.frames.ok)) in
-    under_way_done c.in_ok-enter.ensures.running.under_way none (c.in_ok-enter.ensures.none c.if-branch.false)
+    open_levels_done c.in_ok-enter.ensures.running.open_levels none (c.in_ok-enter.ensures.none c.if-branch.false)

@@ -4,10 +4,10 @@ use Rattle.pg_game.proofs.builder.PickedSpecifications.{named_moves, named_rise}
 use Rattle.pg_game.proofs.builder.GameBuilder.distinct_identifiers.Goals as goal
 
 pub check_distinct-requires-clause-moved : goal.check_distinct-requires-clause-moved
-check_distinct-requires-clause-moved c = rw (c.as_slice.ensures.value, c.in_ok-ids.ensures) (named_moves c.requires.lines.paired)
+check_distinct-requires-clause-moved c = rw (c.as_slice-ids.ensures.value, c.in_ok-list.ensures) (named_moves c.requires.lines.paired)
 
 pub check_distinct-requires-clause-sorted : goal.check_distinct-requires-clause-sorted
-check_distinct-requires-clause-sorted c = rw (c.as_slice.ensures.value, c.in_ok-ids.ensures) (named_rise c.args.lines.now c.requires.lines.rising)
+check_distinct-requires-clause-sorted c = rw (c.as_slice-ids.ensures.value, c.in_ok-list.ensures) (named_rise c.args.lines.now c.requires.lines.rising)
 
 pub of_rising-requires : goal.of_rising-requires
 of_rising-requires c = search (
@@ -15,11 +15,10 @@ of_rising-requires c = search (
   named_moves,
   length_permutation,
   length-map,
-  c.as_slice.ensures.value,
-  c.in_ok-ids.ensures,
+  c.as_slice-ids.ensures.value,
+  c.in_ok-list.ensures,
   c.in_ok-check_distinct.ensures.rising,
   c.requires.lines.paired,
   c.args.self.now,
-  c.as_slice-2.ensures.value,
   c.requires.few,
 )

@@ -14,7 +14,7 @@ listed specs few some up = listed_fault specs
 pub of_rising-requires : goal.of_rising-requires
 of_rising-requires c =
     let e : c.as_slice.result.now ≡ ids_of c.args.self = c.as_slice.ensures.value ∙ sym (ids_is c.self.invariant c.self.view_is) in
-    rw e record { rising = c.requires.rising; short = let n = length-map c.args.self (λ s. s.id) in omega (arith, n, c.requires.few) }
+    rw e record { rising = c.requires.rising; short = let n = length-map c.args.self (λ s. s.id) in omega (arith, n, c.requires.limits.few) }
 
 pub resolved-requires-clause-identifiers : goal.resolved-requires-clause-identifiers
 resolved-requires-clause-identifiers c =
@@ -23,21 +23,21 @@ resolved-requires-clause-identifiers c =
 
 pub returns-in_err-resolved-clause-fault : goal.returns-in_err-resolved-clause-fault
 returns-in_err-resolved-clause-fault c =
-    rw (listed c.args.self c.requires.few c.requires.some c.requires.rising) (search (rules, passed_on, c.in_err-resolved.ensures.fault))
+    rw (listed c.args.self c.requires.limits.few c.requires.limits.some c.requires.rising) (search (rules, passed_on, c.in_err-resolved.ensures.fault))
 
 pub into_game-requires : goal.into_game-requires
 into_game-requires c =
     let e : c.in_ok-identifiers.identifiers ≡ ids_of c.args.self =
     c.in_ok-identifiers.ensures.identifiers ∙ (c.as_slice.ensures.value ∙ sym (ids_is c.self.invariant c.self.view_is)) in
-    let sound = listed c.args.self c.requires.few c.requires.some c.requires.rising ∙ c.in_ok-resolved.ensures.sound in
+    let sound = listed c.args.self c.requires.limits.few c.requires.limits.some c.requires.rising ∙ c.in_ok-resolved.ensures.sound in
     let p = rw e at c.in_ok-resolved.ensures.resolved in
-    rw e (resolved_stored sound c.requires.numbers (IsPermutation-refl c.args.self) refl c.requires.rising p)
+    rw e (resolved_stored sound c.requires.limits.numbers (IsPermutation-refl c.args.self) refl c.requires.rising p)
 
 pub returns-clause-game : goal.returns-clause-game
 returns-clause-game c =
     let e : c.in_ok-identifiers.identifiers ≡ ids_of c.args.self =
     c.in_ok-identifiers.ensures.identifiers ∙ (c.as_slice.ensures.value ∙ sym (ids_is c.self.invariant c.self.view_is)) in
-    let sound = listed c.args.self c.requires.few c.requires.some c.requires.rising ∙ c.in_ok-resolved.ensures.sound in
+    let sound = listed c.args.self c.requires.limits.few c.requires.limits.some c.requires.rising ∙ c.in_ok-resolved.ensures.sound in
     let p = rw e at c.in_ok-resolved.ensures.resolved in
-    let made = resolved_game sound c.requires.numbers (IsPermutation-refl c.args.self) refl c.requires.rising p in
+    let made = resolved_game sound c.requires.limits.numbers (IsPermutation-refl c.args.self) refl c.requires.rising p in
     rw (c.into_game.ensures, e) (made.0, made.1, sound)

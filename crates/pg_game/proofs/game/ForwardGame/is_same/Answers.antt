@@ -18,7 +18,7 @@ returns-then-ne c = (
   λ t. absurd (cc t),
   λ e.
       let p = same_parts c.self.invariant.parts c.other.invariant.parts c.self.view_is c.other.view_is e in
-      absurd (differ nat_eq number_decides _ _ _ c.ne.ensures c.if-ne.true (c.as_slice.ensures.value ∙ (p.1 ∙ sym c.as_slice-2.ensures.value))),
+      absurd (differ nat_eq number_decides _ _ _ c.ne.ensures c.if-ne.true (c.as_slice-priorities.ensures.value ∙ (p.1 ∙ sym c.as_slice-other_priorities.ensures.value))),
 )
 
 pub returns-then-ne-2 : goal.returns-then-ne-2
@@ -27,7 +27,7 @@ returns-then-ne-2 c = (
   λ e.
       let p = same_parts c.self.invariant.parts c.other.invariant.parts c.self.view_is c.other.view_is e in
       absurd (differ _ (player_decides _ refl refl refl refl) _ _ _ c.ne-2.ensures c.if-ne-2.true
-      (c.as_slice-3.ensures.value ∙ (p.2 ∙ sym c.as_slice-4.ensures.value))),
+      (c.as_slice-owners.ensures.value ∙ (p.2 ∙ sym c.as_slice-other_owners.ensures.value))),
 )
 
 pub returns : goal.returns
@@ -37,10 +37,10 @@ returns c =
     let same : c.is_same.result ≡ true = search rules in
     let ids : s.identifiers ≡ o.identifiers = c.is_same.ensures.0 same in
     let ps : s.priorities.items ≡ o.priorities.items =
-    sym c.as_slice.ensures.value ∙ (agree nat_eq number_decides _ _ _ c.ne.ensures c.if-ne.false ∙ c.as_slice-2.ensures.value) in
+    sym c.as_slice-priorities.ensures.value ∙ (agree nat_eq number_decides _ _ _ c.ne.ensures c.if-ne.false ∙ c.as_slice-other_priorities.ensures.value) in
     let os : s.owners.items ≡ o.owners.items =
-    sym c.as_slice-3.ensures.value
-    ∙ (agree _ (player_decides _ refl refl refl refl) _ _ _ c.ne-2.ensures c.if-ne-2.false ∙ c.as_slice-4.ensures.value) in (
+    sym c.as_slice-owners.ensures.value
+    ∙ (agree _ (player_decides _ refl refl refl refl) _ _ _ c.ne-2.ensures c.if-ne-2.false ∙ c.as_slice-other_owners.ensures.value) in (
       λ t. let rows = c.is_same-2.ensures.0 t in sym c.self.view_is ∙ ((λ i. graph_of (ids i) (ps i) (os i) (rows i)) ∙ c.other.view_is),
       λ e. c.is_same-2.ensures.1 (same_parts c.self.invariant.parts c.other.invariant.parts c.self.view_is c.other.view_is e).3,
     )

@@ -1,4 +1,4 @@
-use Rattle.pg_game.proofs.Common.{rules, subst, Graph, HasPredecessors, ◌≡◌, ℕ, ◌<◌, List, length, get_or, refl, ◌∙◌, sym, arith, Contains-get_or, Player}
+use Rattle.pg_game.proofs.Common.{rules, subst, Graph, HasPredecessors, ◌≡◌, ℕ, ◌<◌, ◌≤◌, max_vertices, List, length, get_or, refl, ◌∙◌, sym, arith, Contains-get_or, Player}
 use Rattle.pg_game.proofs.Common.{IsGame, AreSuccessors, ArePredecessors, row_at, AreRisingRows, AreSources, graph_of, AreParts, IsStored}
 use Rattle.pg_game.proofs.game.Parts.{length_is, successors_are}
 use Rattle.pg_game.proofs.Gathered.{begins}
@@ -19,8 +19,12 @@ module _ {ids ps : List ℕ} {os : List Player} {rows : List (List ℕ)} (a : Ar
       let n : length (graph_of ids ps os rows) ≡ length rows = length_is a refl ∙ sym a.successors in
       subst (λ (k : ℕ). AreSuccessors k (row_at rows v)) n (rw (successors_are a refl v) at (game.successors v (omega (arith, l, n))))
 
-  game_rows : IsGame (graph_of ids ps os rows) → AreRisingRows rows
-  game_rows game = search (rules, row_of)
+  game_rows : IsGame (graph_of ids ps os rows) → length ids ≤ max_vertices → AreRisingRows rows
+  game_rows game few = record {
+    few = omega (arith, few, a.successors);
+    below = λ v k l. (row_of game v l).below k;
+    rising = λ v l. (row_of game v l).rising;
+  }
 
 -- sources of rows are the predecessors of the game that the rows are stored in
 has_back : {ids ps : List ℕ} {os : List Player} {rows back : List (List ℕ)} → IsStored ids ps os rows →

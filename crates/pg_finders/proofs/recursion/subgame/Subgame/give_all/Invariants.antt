@@ -1,5 +1,5 @@
 use Rattle.pg_finders.proofs.Common.{◌≡◌, ◌<◌, ℕ, length, slice_index, IsGiven, SameOutside, active_of}
-use Rattle.pg_finders.specs.private.recursion.Growing.{HasSizes}
+use Rattle.pg_finders.specs.private.recursion.TakenVertices.{HasSizes}
 use Rattle.pg_finders.proofs.recursion.subgame.Subgame.give_all.Given as goal
 
 abbrev pub invariant-loop-v : goal.invariant-loop-v

@@ -1,0 +1,230 @@
+"""The calls of the package."""
+
+from __future__ import annotations
+
+from array import array
+from typing import Any, Iterable, List, Optional, Sequence, Tuple, Union
+
+from . import faults, library
+
+from .arrays import (
+    Buffer, MaybeNumbers, Numbers, PathLike, Rows, Solution, Text, as_given, claim_views, claims_of, game_of, game_views, pair_of, rows_of_matrix,
+    view_of,
+)  # fmt: skip
+from .board import Board, Entries, Entry, Posted
+from .faults import *  # noqa: F401,F403
+from .library import NO_CHOICE, NO_WINNER, bound, owned, run, written
+from .native import span_of, struct_of
+from .slices import Cancel, limits_of
+from .solving import blank_text, solve_arrays, solve_bytes
+from .version import __version__
+
+__all__ = [
+    "NO_CHOICE", "NO_WINNER", "Board", "Buffer", "Cancel", "Entries", "Entry", "Posted", "Solution", "__version__", "solve", "solve_csr",
+    "solve_file", "solve_graph", "solve_text", "tidy_text", "verify", "verify_csr", "verify_text", *faults.__all__,
+]  # fmt: skip
+
+
+def solve_csr(
+    owners: Buffer,
+    priorities: Buffer,
+    indptr: Union[Buffer, Rows],
+    indices: Optional[Buffer] = None,
+    known: Optional[Tuple[Buffer, Buffer]] = None,
+    steps: Optional[int] = None,
+    *,
+    dead_ends: bool = False,
+    least: bool = False,
+    timeout: Optional[float] = None,
+    cancel: Optional[Cancel] = None,
+) -> Solution:
+    """Solves a game in compressed sparse rows: vertex v has the successors indices[indptr[v]:indptr[v + 1]].
+
+    The arguments are buffers or lists of integers, which are copied. Buffers of 8 bits for `owners`, and of
+    32 bits for the others, are copied as they are; those of other items are converted before. A SciPy matrix
+    in the form csr may be given for both `indptr` and `indices`: what it stores are edges. Returns arrays of
+    the winners and of their choices, which have NO_CHOICE where the winner doesn't own the vertex.
+
+    `known` has winners (NO_WINNER where there is none) and choices in the same form. `steps` bounds
+    Zielonka's recursion, which takes exponential time on some games: GaveUp is raised if it begins more
+    subgames. There may not be both. With `dead_ends` a vertex without successors is lost by its owner. With
+    `least` the least priority that is seen again and again decides.
+
+    Raises TimedOut before a slice that would begin after `timeout` seconds, and Cancelled once another
+    thread calls `cancel.cancel()`. Raises Refused, NotKnown or OutOfMemory too, and TypeError for other
+    arguments.
+    """
+    if known is not None and steps is not None:
+        raise TypeError("known and steps can't be given together")
+    number, limits = bound(steps), limits_of(timeout, cancel)
+    rows = rows_of_matrix(indptr, indices)
+    game = owned(game_views(owners, priorities, *rows, dead_ends, least))
+    claims = None if known is None else owned(claim_views(*pair_of(known)))
+    try:
+        return solve_arrays(game, claims, number, limits)
+    except faults.UnknownSuccessor as fault:
+        raise as_given(fault, view_of("indptr", rows[0], "I"), rows[1]) from None
+
+
+def verify_csr(
+    owners: Buffer,
+    priorities: Buffer,
+    indptr: Union[Buffer, Rows],
+    indices: Optional[Buffer],
+    winners: Buffer,
+    choices: Buffer,
+    *,
+    dead_ends: bool = False,
+    least: bool = False,
+) -> None:
+    """Looks whether winners and choices are a solution of a game, all as `solve_csr` takes and returns them,
+    and raises NotASolution with what is wrong first if they are none. Raises what `solve_csr` does too.
+    (`indices` is None where `indptr` is a matrix.)
+    """
+    rows = rows_of_matrix(indptr, indices)
+    given = [
+        owned(game_views(owners, priorities, *rows, dead_ends, least)),
+        owned(claim_views(winners, choices)),
+    ]
+    try:
+        run("pgboard_check", *map(struct_of, given))
+    except faults.UnknownSuccessor as fault:
+        raise as_given(fault, view_of("indptr", rows[0], "I"), rows[1]) from None
+
+
+def solve(
+    owners: Numbers,
+    priorities: Numbers,
+    successors: Iterable[Numbers],
+    known: Optional[Tuple[MaybeNumbers, MaybeNumbers]] = None,
+    steps: Optional[int] = None,
+    *,
+    dead_ends: bool = False,
+    least: bool = False,
+    timeout: Optional[float] = None,
+    cancel: Optional[Cancel] = None,
+) -> Tuple[List[int], List[Optional[int]]]:
+    """Solves a game: the owner (0 or 1), the priority and the successors of each vertex.
+
+    Returns the winner of each vertex, and for each vertex that its winner owns the successor that he moves
+    to, else None. `known` has winners and choices of this form, with None for a winner that isn't known. The
+    other arguments are those of `solve_csr`, and so are the faults. A choice is None too at a vertex without
+    successors.
+    """
+    claims = None if known is None else claims_of(*pair_of(known))
+    found = solve_csr(
+        *game_of(owners, priorities, successors),
+        claims,
+        steps,
+        dead_ends=dead_ends,
+        least=least,
+        timeout=timeout,
+        cancel=cancel,
+    )
+    return list(found.winners), [None if it == NO_CHOICE else it for it in found.choices]
+
+
+def verify(
+    owners: Numbers,
+    priorities: Numbers,
+    successors: Iterable[Numbers],
+    winners: Numbers,
+    choices: MaybeNumbers,
+    *,
+    dead_ends: bool = False,
+    least: bool = False,
+) -> None:
+    """Looks whether winners and choices are a solution of a game, and raises NotASolution with what is wrong
+    first if they are none. A choice may be None. Raises what `solve` does too.
+    """
+    game, claims = game_of(owners, priorities, successors), claims_of(winners, choices)
+    verify_csr(*game, *claims, dead_ends=dead_ends, least=least)
+
+
+def text_bytes(text: Text) -> bytes:
+    if isinstance(text, str):
+        return text.encode("utf-8")
+    if isinstance(text, bytes):
+        return text
+    raise TypeError(f"a text is bytes or str, not {type(text).__name__}")
+
+
+def solve_text(game: Text, *, timeout: Optional[float] = None, cancel: Optional[Cancel] = None) -> str:
+    """A solution's text of a game's text in PGSolver's format. Raises what `solve` does."""
+    limits = limits_of(timeout, cancel)
+    return solve_bytes(array("B", text_bytes(game)), limits)
+
+
+def solve_file(
+    path: Union[str, bytes, PathLike], *, timeout: Optional[float] = None, cancel: Optional[Cancel] = None
+) -> str:
+    """A solution's text of the game that a file has as text. Raises OSError where the file can't be read,
+    and what `solve_text` raises.
+    """
+    with open(path, "rb") as file:
+        return solve_text(file.read(), timeout=timeout, cancel=cancel)
+
+
+def tidy_text(game: Text) -> str:
+    """The one written form of a game's text. Raises what `solve_text` does."""
+    given = array("B", text_bytes(game))
+    return written(blank_text(given), "pgboard_tidy_text", *span_of(given))
+
+
+def verify_text(game: Text, solution: Text) -> None:
+    """Looks whether a text is a solution of a game's text, and raises NotASolution if it is none. Raises
+    what `solve_text` does too.
+    """
+    given = [array("B", text_bytes(it)) for it in (game, solution)]
+    run("pgboard_verify_text", *span_of(given[0]), *span_of(given[1]))
+
+
+def attributes(graph: Any, nodes: Sequence[Any], name: str) -> List[int]:
+    """The attribute of each node; MissingAttribute for the first that has none."""
+    for at, node in enumerate(nodes):
+        if name not in graph.nodes[node]:
+            raise faults.MissingAttribute(at, node, name)
+    return [graph.nodes[it][name] for it in nodes]
+
+
+def solve_graph(
+    graph: Any,
+    owner: str = "owner",
+    priority: str = "priority",
+    winner: str = "winner",
+    choice: str = "choice",
+    *,
+    dead_ends: bool = False,
+    least: bool = False,
+    timeout: Optional[float] = None,
+    cancel: Optional[Cancel] = None,
+) -> Any:
+    """Solves a networkx.DiGraph, whose nodes have an owner and a priority, by the names of attributes that
+    are given.
+
+    Returns a copy whose nodes have a winner too, and a choice where the winner owns the node; what they had
+    under these names is gone. A fault names its node. Raises MissingAttribute for a node without an owner or
+    a priority, TypeError for what is no directed graph, and what `solve` raises.
+    """
+    if not hasattr(graph, "successors"):
+        raise TypeError(f"a graph is a networkx.DiGraph, not {type(graph).__name__}")
+    nodes = list(graph)
+    places = {node: v for v, node in enumerate(nodes)}
+    owners, priorities = attributes(graph, nodes, owner), attributes(graph, nodes, priority)
+    try:
+        rows = [[places[to] for to in graph.successors(it)] for it in nodes]
+        winners, choices = solve(
+            owners, priorities, rows, dead_ends=dead_ends, least=least, timeout=timeout, cancel=cancel
+        )
+    except faults.Fault as fault:
+        if "{vertex}" in fault.words:
+            fault.node = nodes[fault.at]
+        raise
+    solved = graph.copy()
+    for node, by, move in zip(nodes, winners, choices):
+        found = solved.nodes[node]
+        found.pop(choice, None)
+        found[winner] = by
+        if move is not None:
+            found[choice] = nodes[move]
+    return solved

@@ -1,0 +1,430 @@
+"""Reads parity automata and parity games in the HOA format (version 1).
+
+An automaton is deterministic and has the header `controllable-AP`. A game has the header
+`spot-state-player`, by which each state has an owner, and its edges need not be deterministic. Labels stand
+at edges or states or are implied by the order of edges; sets of the condition stand at states or edges. The
+condition is max or min, even or odd, in whatever order and groups; conditions of one set or none, as
+Buchi's, are such ones. Whatever is not read is refused with its place.
+"""
+
+# mypy: ignore-errors
+
+import re
+
+from . import Refused, called, shown
+from .games import Game, reached
+from .texts import Tokens
+
+MOST_PROPOSITIONS = 14
+MOST = 10**9
+# headers that may say whose a state or a proposition is
+PLAYERS = re.compile("(?i)player|owner|controll")
+COMMENT = re.compile(r"(/\*)|\*/")
+# of names that `acc-name` gives whether the greatest set decides, whether odd ones accept, and how many sets
+# there are
+NAMED = {"Buchi": (True, 0, 1), "co-Buchi": (True, 1, 1), "all": (True, 1, 0), "none": (True, 0, 0)}
+
+
+class Text(Tokens):
+    """An automaton's text, in which comments may be nested."""
+
+    pattern = re.compile(
+        r'(?P<blank>\s+|/\*)|(?P<string>"(?:\\.|[^"\\])*")|(?P<header>[A-Za-z_][\w.-]*:)|(?P<name>@[\w-]+|[A-Za-z_][\w-]*)'
+        r"|(?P<number>[0-9]{1,9})(?![0-9])|(?P<part>--[A-Z]+--)|(?P<sign>[][{}()&|!])",
+        re.DOTALL,
+    )
+
+    def end_of(self, found):
+        return self.end_of_nested(COMMENT, found.start()) if found[0] == "/*" else found.end()
+
+    def number(self, below):
+        if not self.next_is("a number") or int(self.left[-1].text) >= below:
+            self.refuse(f"expected a number below {below}")
+        return int(self.take("a number").text)
+
+    def string(self):
+        return re.sub(r"(?s)\\(.)", r"\1", self.take("a string").text[1:-1])
+
+
+def is_parity(tree, greatest, odd, count):
+    """Whether an acceptance condition is the parity condition of so many sets, in whatever order and groups
+    its operands stand.
+    """
+    for at in reversed(range(count)) if greatest else range(count):
+        wins = at % 2 == odd
+        leaf = ["Inf" if wins else "Fin", at]
+        if at == (0 if greatest else count - 1):
+            return tree == leaf
+        if tree[0] != ("|" if wins else "&") or len(tree) != 3 or leaf not in tree[1:]:
+            return False
+        tree = tree[1 if tree[2] == leaf else 2]
+    return tree == ["t" if odd == greatest else "f"]
+
+
+def joined(operator, _, left, right):
+    """A condition of operands, of which none has the same operator."""
+    if left[0] != operator:
+        left = [operator, left]
+    left.extend(right[1:] if right[0] == operator else [right])
+    return left
+
+
+class Automaton:
+    """A parity automaton or a parity game: of each state its edges, (letters, priority, target).
+
+    A letter is a number that has bit j where proposition j holds, and a set of letters is one that has bit l
+    for letter l. Priorities are those of a game in which the greatest decides, and in which even ones
+    accept. In a game `owners` has the player of each state; player 1 wins where the automaton accepts. Of an
+    automaton it is None.
+    """
+
+    def __init__(self, path, text):
+        self.tokens = Text(path, text)
+        self.first = self.names = self.controllable = self.condition = self.owners = self.name = None
+        self.states = MOST
+        self.aliases, self.edges, self.targets, self.places, self.called, self.headers = (
+            {},
+            {},
+            {},
+            {},
+            {},
+            set(),
+        )
+        if not self.tokens.next_is("HOA:"):
+            self.tokens.refuse("expected HOA:")
+        while not self.tokens.takes("--BODY--"):
+            self.header()
+        if self.owners is None:
+            self.need("controllable-AP:")
+        self.need("Start:", "AP:", "Acceptance:")
+        if self.name and not is_parity(self.tree, *self.name[0]):
+            self.tokens.refuse("the header acc-name: contradicts the header Acceptance:", self.name[1])
+        if self.owners and self.states not in (MOST, len(self.owners)):
+            self.tokens.refuse(f"spot-state-player: has {len(self.owners)} players for {self.states} states")
+        self.states = min(self.states, MOST if self.owners is None else len(self.owners))
+        while not self.tokens.takes("--END--"):
+            self.state()
+        if self.tokens.left:
+            self.tokens.refuse("only one automaton is read")
+        for state, at in {**self.targets, self.first: self.targets.get(self.first)}.items():
+            if state not in self.edges:
+                self.tokens.refuse(f"state {state} is not described", at)
+
+    def need(self, *headers):
+        for header in headers:
+            if header not in self.headers:
+                self.tokens.refuse(f"there is no header {header} before this")
+
+    def header(self):
+        tokens = self.tokens
+        at, name = tokens.at(), tokens.take("a header").text
+        if name in ("Alias:", "controllable-AP:") and self.names is None:
+            tokens.refuse("the header AP: has to come before this one", at)
+        known = {"HOA:": self.version, "States:": self.count, "Start:": self.start, "AP:": self.propositions}
+        known.update({"controllable-AP:": self.outputs, "Alias:": self.alias, "Acceptance:": self.acceptance})
+        known.update({"spot-state-player:": self.players, "acc-name:": self.names_condition})
+        if name in known:
+            if name in self.headers and name not in ("Start:", "Alias:"):
+                tokens.refuse(f"the header {name} is given twice", at)
+            self.headers.add(name)
+            known[name]()
+        elif name[0].isupper() or PLAYERS.search(name):
+            # by the format, what a header with a capital letter says may not be passed over; players change a
+            # game too
+            tokens.refuse(f"the header {shown(name)} is not read", at)
+        else:
+            while tokens.takes("a string", "a name", "a number", "a sign"):
+                pass
+
+    def version(self):
+        self.tokens.take("v1")
+
+    def count(self):
+        self.states = self.tokens.number(MOST)
+
+    def start(self):
+        if self.first is not None:
+            self.tokens.refuse("a second first state is not read")
+        self.first = self.tokens.number(MOST)
+
+    def propositions(self):
+        at, count = self.tokens.at(), self.tokens.number(MOST)
+        if count > MOST_PROPOSITIONS:
+            self.tokens.refuse(f"{count} propositions are too many: at most {MOST_PROPOSITIONS} are read", at)
+        self.names = []
+        for _ in range(count):
+            at, name = self.tokens.at(), self.tokens.string()
+            if name in self.names:
+                self.tokens.refuse(f"the proposition {shown(name)} is given twice", at)
+            self.names.append(name)
+        self.all = (1 << (1 << count)) - 1
+        # the letters with bit j are 2^j in a row, after 2^j without it, and so on
+        self.holds = [self.all // ((1 << (1 << j)) + 1) << (1 << j) for j in range(count)]
+
+    def outputs(self):
+        self.controllable = []
+        while self.tokens.next_is("a number"):
+            at, proposition = self.tokens.at(), self.tokens.number(len(self.names))
+            if proposition in self.controllable:
+                self.tokens.refuse(f"proposition {proposition} is given twice", at)
+            self.controllable.append(proposition)
+
+    def players(self):
+        """Players of the states in order, as Spot writes them; player 1 wins where the automaton accepts."""
+        self.owners = []
+        while self.tokens.next_is("a number"):
+            self.owners.append(self.tokens.number(2))
+
+    def alias(self):
+        at, name = self.tokens.at(), self.tokens.take("a name").text
+        if name[0] != "@" or name in self.aliases:
+            why = "is defined twice" if name in self.aliases else "does not begin with @"
+            self.tokens.refuse(f"the alias {shown(name)} {why}", at)
+        self.aliases[name] = self.label()
+
+    def acceptance(self):
+        at, count = self.tokens.at(), self.tokens.number(MOST)
+        self.tree = self.nested(self.sets_condition, joined)
+        kinds = [(greatest, odd) for greatest in (True, False) for odd in (0, 1)]
+        found = [it for it in kinds if is_parity(self.tree, *it, count)]
+        if not found:
+            self.tokens.refuse("this is no parity condition: max or min, even or odd", at)
+        self.condition = *found[0], count
+
+    def sets_condition(self):
+        tokens = self.tokens
+        if tokens.takes("("):
+            tree = tokens.chain(("|", "&"), self.sets_condition, joined)
+            tokens.take(")")
+            return tree
+        if tokens.next_is("t", "f"):
+            return [tokens.take("a name").text]
+        name = tokens.take("Inf", "Fin").text
+        tokens.take("(")
+        number = tokens.number(MOST)
+        tokens.take(")")
+        return [name, number]
+
+    def names_condition(self):
+        """What acc-name says where it names a parity condition, which has to be that of Acceptance."""
+        at, words = self.tokens.at(), []
+        while self.tokens.next_is("a name", "a number", "a sign"):
+            words.append(self.tokens.take("a name", "a number", "a sign").text)
+        kind = NAMED.get(" ".join(words))
+        if len(words) == 4 and words[0] == "parity" and words[3].isdigit():
+            kind = words[1] == "max", int(words[2] == "odd"), int(words[3])
+        self.name = kind and (kind, at)
+
+    def priority(self, sets):
+        """The priority of what is in these sets. What is in none counts less than all sets, and so does its
+        priority.
+        """
+        greatest, odd, count = self.condition
+        if greatest:
+            return max(sets, default=-1) + 2 - odd
+        return count + (count + odd) % 2 - min(sets, default=count)
+
+    def sets(self):
+        found = []
+        if self.tokens.takes("{"):
+            while not self.tokens.takes("}"):
+                found.append(self.tokens.number(self.condition[2]))
+        return found
+
+    def state(self):
+        tokens = self.tokens
+        tokens.take("State:")
+        # what all edges of the state are labelled with, or None
+        common = self.bracket() if tokens.next_is("[") else None
+        at, state = tokens.at(), tokens.number(self.states)
+        if state in self.edges:
+            tokens.refuse(f"state {state} is described twice", at)
+        self.places[state] = at
+        self.called[state] = tokens.string() if tokens.next_is("a string") else ""
+        here, edges, seen = self.sets(), [], 0
+        implied = common is None and tokens.next_is("a number")
+        while not tokens.next_is("State:", "--END--"):
+            at = tokens.at()
+            letters = self.implied(len(edges)) if implied else self.bracket() if common is None else common
+            if self.owners is None and letters & seen:
+                tokens.refuse(
+                    f"not deterministic: an edge of state {state} before this one takes a letter of it", at
+                )
+            seen |= letters
+            at, target = tokens.at(), tokens.number(self.states)
+            self.targets.setdefault(target, at)
+            edges.append((letters, self.priority(here + self.sets()), target))
+        if implied and len(edges) != 1 << len(self.names):
+            tokens.refuse(
+                f"{len(edges)} edges without labels, where each of {1 << len(self.names)} letters has to have one"
+            )
+        self.edges[state] = [it for it in edges if it[0]]
+
+    def implied(self, at):
+        """The letter of an edge without a label: the first edge's is that without propositions, and so on."""
+        if not self.tokens.next_is("a number") or at >= 1 << len(self.names):
+            self.tokens.refuse("expected an edge without a label for each letter, and no other edge")
+        return 1 << at
+
+    def bracket(self):
+        self.tokens.take("[")
+        letters = self.label()
+        self.tokens.take("]")
+        return letters
+
+    def label(self):
+        return self.nested(
+            self.atom, lambda operator, _, left, right: left | right if operator == "|" else left & right
+        )
+
+    def nested(self, part, join):
+        try:
+            return self.tokens.chain(("|", "&"), part, join)
+        except RecursionError:
+            self.tokens.refuse("nested too deeply")
+
+    def atom(self):
+        tokens = self.tokens
+        if tokens.takes("!"):
+            return self.all & ~self.atom()
+        if tokens.takes("("):
+            letters = self.label()
+            tokens.take(")")
+            return letters
+        if tokens.next_is("a number"):
+            return self.holds[tokens.number(len(self.names))]
+        name = tokens.left[-1].text if tokens.left else ""
+        known = self.aliases if name in self.aliases else {"t": self.all, "f": 0}
+        if name not in known:
+            tokens.refuse("expected a number of a proposition, t, f, an alias from above, ! or (")
+        return known[tokens.take("a name").text]
+
+    def cube(self, propositions, spelled):
+        """The letters in which these propositions are as spelled: 1, 0, or - for either."""
+        letters = self.all
+        for proposition, value in zip(propositions, spelled):
+            if value != "-":
+                letters &= self.holds[proposition] if value == "1" else self.all & ~self.holds[proposition]
+        return letters
+
+    def turns(self):
+        """Of a game in which the players take turns, the automaton of which an edge is a move of player 0
+        and one of player 1.
+
+        Player 0 begins, and chooses the propositions that are not controllable; each choice of them has one
+        edge.
+        """
+        self.need("controllable-AP:")
+        moves, begun, found, between = {}, [self.first], {self.first}, set()
+        for state in begun:
+            self.check_moves(state, 0)
+            for middle in {to for _, _, to in self.edges[state]} - between:
+                self.check_moves(middle, 1)
+                between.add(middle)
+            moves[state] = [
+                (given & taken, max(priority, last), to)
+                for given, priority, middle in self.edges[state]
+                for taken, last, to in self.edges[middle]
+            ]
+            begun += [to for to in dict.fromkeys(it[2] for it in moves[state]) if to not in found]
+            found.update(begun[len(found) :])
+        self.edges = moves
+
+    def check_moves(self, state, player):
+        """Refuses a state that is not the player's, or whose edges are no choices of his propositions."""
+        refuse = lambda why: self.tokens.refuse(f"state {state}: {why}", self.places[state])
+        if self.owners[state] != player:
+            refuse(
+                f"player {1 - player}'s, where player {player} moves: they have to take turns, and player 0 begins"
+            )
+        seen = 0
+        for letters, _, _ in self.edges[state]:
+            for it, name in enumerate(self.names):
+                # with and without a proposition of the other player the letters are the same
+                if (it in self.controllable) != bool(player) and (letters & self.holds[it]) >> (
+                    1 << it
+                ) != letters & ~self.holds[it]:
+                    refuse(f"a label names {shown(name)}, which player {player} doesn't choose")
+            if letters & seen:
+                refuse("not deterministic: two of its edges take one letter")
+            seen |= letters
+        if not player and seen != self.all:
+            refuse("no edge takes one of player 0's choices")
+
+
+def bits(value, width):
+    """A choice of so many propositions, the first one's first."""
+    return format(value, f"0{width}b") if width else ""
+
+
+class Arena:
+    """The game of environment and controller. Its vertices are
+
+    ("state", q), where the environment chooses; ("edges", q, those that may follow), where the controller
+    chooses one; ("edge", priority, target), which is taken; and ("lost",), where the automaton has no edge.
+    """
+
+    def __init__(self, automaton):
+        self.automaton = automaton
+        self.outputs = automaton.controllable
+        self.inputs = [it for it in range(len(automaton.names)) if it not in self.outputs]
+        width = len(self.inputs)
+        self.given = [automaton.cube(self.inputs, bits(value, width)) for value in range(1 << width)]
+        self.after = {}
+        self.vertices, self.rows = reached(("state", automaton.first), self.row)
+        self.numbers = {vertex: number for number, vertex in enumerate(self.vertices)}
+
+    def row(self, vertex):
+        kind, *more = vertex
+        if kind == "edge":
+            return more[0], 0, [("state", more[1])], f"to {more[1]}"
+        if kind == "lost":
+            return 1, 0, [vertex], "no edge"
+        edges = self.automaton.edges[more[0]]
+        if kind == "edges":
+            taken = [("edge", *edges[it][1:]) for it in more[1]]
+            return 0, 0, taken or [("lost",)], f"{more[0]}, the controller"
+        # by each choice of inputs, the edges that some choice of outputs takes
+        self.after[more[0]] = [
+            tuple(at for at, edge in enumerate(edges) if edge[0] & letters) for letters in self.given
+        ]
+        return 0, 1, [("edges", more[0], it) for it in self.after[more[0]]], f"{more[0]}, the environment"
+
+
+def game_of(automaton, closes):
+    """The game of the format, or of an automaton's environment and controller, in which Even is the
+    controller.
+    """
+    if automaton.owners is not None:
+        rows = dict(sorted(vertices_of(automaton, closes)))
+        return Game(rows, automaton.tokens.path, automaton.tokens.text, automaton.places, automaton.first)
+    if closes:
+        raise Refused(
+            f"{called(automaton.tokens.path)}: --dead-ends is for a game, and an automaton needs none", 2
+        )
+    return Game.of_rows(Arena(automaton).rows)
+
+
+def vertices_of(automaton, closes):
+    """The vertices of a game in the HOA format: the identifier, and (priority, owner, successors, name).
+
+    A priority is one more than the automaton's, so that odd ones accept; 0 decides nowhere.
+    """
+    last = max(automaton.edges)
+    for state, edges in automaton.edges.items():
+        owner, priorities = automaton.owners[state], {it[1] for it in edges}
+        successors, priority = dict.fromkeys(to for _, _, to in edges), 1 + max(priorities, default=-1)
+        if len(priorities) > 1:
+            successors, priority = [], 0
+            for _, own, to in dict.fromkeys((0, *it[1:]) for it in edges):
+                last += 1
+                successors.append(last)
+                yield last, (own + 1, owner, [to], f"{state} to {to}")
+        if not edges:
+            if not closes:
+                automaton.tokens.refuse(
+                    f"state {state} has no edge: with --dead-ends lose its owner loses there",
+                    automaton.places[state],
+                )
+            successors, priority = [state], 1 - owner
+        yield state, (priority, owner, list(successors), automaton.called[state])

@@ -1,0 +1,138 @@
+"""Texts as files have them, packed or not, and as tokens, for grammars in which the next token says what
+begins there.
+"""
+
+# mypy: ignore-errors
+
+import importlib
+import io
+import shutil
+import zlib
+from typing import NamedTuple
+
+from . import Refused, called, child, read, shown
+
+# how packed files begin, and the module that unpacks them; `zstd` is a command
+PACKED = {b"\x1f\x8b": "gzip", b"BZh": "bz2", b"\xfd7zXZ\0": "lzma", b"\x28\xb5\x2f\xfd": "zstd"}
+UTF_16 = "it is UTF-16: `iconv -f UTF-16 -t UTF-8` turns it into UTF-8"
+# these operators join from the right, and all others from the left
+FROM_THE_RIGHT = ("=>", ".")
+
+
+def unpacked(path, data, kind):
+    if kind == "zstd":
+        if not shutil.which(kind):
+            raise Refused(f"{called(path)}: the command zstd, which unpacks it, is not on the PATH")
+        status, data, said = child([kind, "-dc"], data)
+        if status:
+            raise Refused(f"{called(path)}: it can't be unpacked: {said.strip()}")
+        return data
+    module = importlib.import_module(kind)
+    try:
+        return module.open(io.BytesIO(data)).read()
+    except (OSError, EOFError, zlib.error, getattr(module, "LZMAError", OSError)) as error:
+        raise Refused(f"{called(path)}: it can't be unpacked: {error}") from error
+
+
+def text_of(path):
+    """The text of a file, or for `-` of standard input, unpacked and without a byte order mark."""
+    data = read(path)
+    for begins, kind in PACKED.items():
+        if data.startswith(begins):
+            data = unpacked(path, data, kind)
+            break
+    if data.startswith((b"\xff\xfe", b"\xfe\xff")):
+        raise Refused(f"{called(path)}: {UTF_16}")
+    return data.decode("utf-8", "surrogateescape").lstrip("\ufeff")
+
+
+def texts_of(*paths):
+    """The texts of files, of which one may be standard input."""
+    if paths.count("-") > 1:
+        raise Refused("- is standard input, which can't be two files", 2)
+    return [text_of(it) for it in paths]
+
+
+class Token(NamedTuple):
+    """A token's text and place, and its kind: `a` and the name of its group in the pattern."""
+
+    text: str
+    kind: str
+    at: int
+    end: int
+
+
+class Tokens:
+    """The tokens of a text, taken one after the other. What is wanted of a token is its text or its kind."""
+
+    # of each token a group, of which `blank` is none; and how a text may spell the text of another token
+    pattern, same = None, {}
+
+    def __init__(self, path, text):
+        self.path, self.text, self.left, self.done, at = path, text, [], 0, 0
+        while at < len(text):
+            found = self.pattern.match(text, at)
+            if not found:
+                self.refuse("no token begins here", at)
+            at = self.end_of(found)
+            if found[0] in self.same:
+                self.left.append(Token(self.same[found[0]], "a sign", found.start(), at))
+            elif found.lastgroup != "blank":
+                self.left.append(Token(text[found.start() : at], f"a {found.lastgroup}", found.start(), at))
+        self.end = self.left[-1].end if self.left else 0
+        self.left.reverse()
+
+    def end_of(self, found):
+        """Where a token ends of which the pattern has found the beginning."""
+        return found.end()
+
+    def end_of_nested(self, pattern, at):
+        """Where that ends which begins there and may have its like inside; the pattern finds each beginning,
+        as a group, and each end.
+        """
+        depth = 0
+        for found in pattern.finditer(self.text, at):
+            depth += 1 if found[1] else -1
+            if not depth:
+                return found.end()
+        self.refuse(f"this {self.text[at]} is never closed", at)
+
+    def refuse(self, why, at=None):
+        raise Refused(why, place=(self.path, self.text, self.at() if at is None else at))
+
+    def at(self):
+        """The place of the next token, or where the last one ends."""
+        return self.left[-1].at if self.left else self.end
+
+    def next_is(self, *wanted):
+        return bool(self.left) and (self.left[-1].text in wanted or self.left[-1].kind in wanted)
+
+    def take(self, *wanted):
+        """The next token, which has to be one that is wanted."""
+        if not self.next_is(*wanted):
+            self.expect(" or ".join(wanted))
+        token = self.left.pop()
+        self.done = token.end
+        return token
+
+    def takes(self, *wanted):
+        """Takes the next token where it is one that is wanted, and says whether."""
+        return bool(self.next_is(*wanted) and self.take(*wanted))
+
+    def expect(self, wanted):
+        """Refuses the next token, since another one is expected."""
+        found = shown(self.text[self.at() : self.left[-1].end]) if self.left else "the end of the text"
+        self.refuse(f"expected {wanted}, found {found}")
+
+    def chain(self, operators, part, join):
+        """What operators join, of which the first one binds least; `join` gets the operator, where its left
+        side begins, and both.
+        """
+        if not operators:
+            return part()
+        operator, at = operators[0], self.at()
+        left = self.chain(operators[1:], part, join)
+        while self.takes(operator):
+            right = self.chain(operators[operator not in FROM_THE_RIGHT :], part, join)
+            left = join(operator, at, left, right)
+        return left

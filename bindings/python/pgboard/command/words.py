@@ -1,0 +1,354 @@
+"""Solves, verifies, explains, converts and draws max-parity games, in files of many tools.
+
+A game is a text in PGSolver's format, also with comments (from `#` or `//` to the end of a line), names,
+vertices without successors, and a byte order mark; a file that gzip, bzip2, xz or zstd has packed; or an
+automaton or a game in the HOA format. `-` is standard input. Results have the identifiers of the input.
+"""
+
+# mypy: ignore-errors
+
+from . import WORDS, LATE, Parser, Refused, called, number, seconds, write  # isort: skip
+
+import json
+import re
+import sys
+
+from . import engine, explain, pictures, statistics
+from .games import PLAYERS, Game, Solution, game_of, game_of_text, solution_of
+from .texts import text_of, texts_of
+
+# (of a word, what its own statuses say comes before)
+STATUSES = "2 where the command line was refused, 3 a text, 4 a file or the output, 5 memory"
+DONE, JUDGED = "0 where it is done, ", "0 where it is a solution, 1 where it is none, "
+CONVERT = """Writes a game in the form that pgboard reads, or with --solution a solution.
+
+Names are kept; in them `\\"` becomes `'`, since pgboard's names have no escapes. Winners, and the choices of
+winners at vertices with successors, are those of the game that was given. A game in the HOA format has the
+header `spot-state-player`; each state is the vertex of its number, and an edge is a vertex of its own where
+those of a state differ in priority. Without that header the input is a deterministic automaton, and Even is
+the controller of its propositions `controllable-AP`."""
+SOLVE = """Solves a game, verifies the solution, and writes it.
+
+On a terminal, standard error shows how many vertices are settled, where the library is found."""
+WINNER = """Says who wins a game from its `start` vertex, or from one that --vertex names.
+
+With --reach, --game or --picture the result is the part of the winner's strategy that a play from there can
+reach: where the winner owns a vertex, the play takes his choice, and elsewhere it may take each edge."""
+EXPLAIN = """Says why `verify` refuses a solution, in the vertices of the game.
+
+For a bad cycle it shows a shortest closed walk that the other player wins, of edges that the solution keeps:
+where the winner owns a vertex, the edge to his choice, and elsewhere all edges. For an edge that leaves what
+its player is said to win, it shows the other ways. For a choice that is missing, or is no successor, it
+shows the line and what could be there."""
+DRAW = """Draws a game as Graphviz text, or as a picture by Graphviz's `dot`, on standard output.
+
+Even owns the diamonds and Odd the boxes. What Even wins is light with a plain border, what Odd wins is dark
+with a double one, and what is open is white and dashed. The winner's choice is bold. At most 200 vertices
+are drawn."""
+
+
+def add_game(word, solution=None):
+    word.add_argument(
+        "game",
+        metavar="GAME",
+        nargs="?" if solution in (None, "?") else None,
+        default="-",
+        help="a game; - is standard input",
+    )
+    if solution:
+        word.add_argument(
+            "solution",
+            metavar="SOLUTION",
+            nargs=None if solution != "?" else "?",
+            help="a solution, as PGSolver or Oink print it",
+        )
+    word.add_argument(
+        "--min",
+        action="store_true",
+        help="the least priority that is seen again and again decides, as a header `minparity` says",
+    )
+    word.add_argument(
+        "--odd", action="store_true", help="player 0 wins by odd priorities, and player 1 by even ones"
+    )
+    word.add_argument(
+        "--dead-ends", choices=["lose"], help="the owner of a vertex without successors loses there"
+    )
+
+
+def add_json(word):
+    word.add_argument("--json", action="store_true", help="write JSON")
+
+
+def print_json(value):
+    json.dump(value, sys.stdout)
+    print()
+
+
+def convert(given):
+    if given.solution and (given.min or given.odd or given.dead_ends):
+        raise Refused("--min, --odd and --dead-ends are for a game, and --solution is for a solution", WORDS)
+    if not given.solution:
+        return print(game_of(given.game, given).written(), end="")
+    solution = solution_of(given.game, text_of(given.game))
+    if not solution.rows:
+        raise Refused(f"{called(given.game)}: there is no solution in it")
+    return print(solution.written(), end="")
+
+
+def solve(given):
+    if given.partial and not given.timeout:
+        raise Refused("--partial comes with --timeout", WORDS)
+    text, *known = texts_of(given.game, *([given.known] if given.known else []))
+    game = game_of_text(given.game, text, given)
+    known = solution_of(given.known, known[0]) if known else None
+    if known:
+        known.check(game, is_part=True)
+    found = engine.solved(game, known, given.timeout, given.partial)
+    numbers = {**statistics.of_game(game), **statistics.of_solved(found)} if given.stats else {}
+    if given.json:
+        name = lambda id: {"name": game.rows[id][3]} if given.keep_names and game.rows[id][3] else {}
+        rows = [
+            {"vertex": id, "winner": it[0], "choice": it[1], **name(id)}
+            for id, it in sorted(found.solution.rows.items())
+        ]
+        print_json({"is_whole": found.is_whole, "solution": rows, **({"stats": numbers} if numbers else {})})
+    else:
+        print(found.solution.written(game.rows if given.keep_names else None), end="", flush=True)
+        print(statistics.text(numbers), end="", file=sys.stderr)
+    if not found.is_whole:
+        raise Refused(
+            f"after {given.timeout:g} s {len(found.solution.rows)} of {len(game.rows)} vertices are settled",
+            LATE,
+        )
+
+
+def judged(given):
+    """A game, a solution, and what is said of it."""
+    texts = texts_of(given.game, given.solution)
+    game, solution = game_of_text(given.game, texts[0], given), solution_of(given.solution, texts[1])
+    solution.check(game)
+    return game, solution, engine.verdict(game, solution)
+
+
+def verify(given):
+    _, _, said = judged(given)
+    if given.json:
+        print_json({"is_solution": said == "ok", **({} if said == "ok" else {"fault": said})})
+    else:
+        print(said if said == "ok" else f"not a solution: {said}")
+    return int(said != "ok")
+
+
+def explains(given):
+    game, solution, said = judged(given)
+    if said == "ok":
+        print(said)
+        return 0
+    claim = explain.Claim(game, solution)
+    lines, edges = explain.explained(claim, said)
+    print("\n".join([f"not a solution: {said}", *lines]), flush=True)
+    if given.picture:
+        explain.draw(given.picture, claim, edges)
+    return 1
+
+
+def reached(game, solution, start):
+    """The game of what a play from there can reach, in which the winner keeps to his choices."""
+    winner, moves = solution[start][0], {start: None}
+    vertices = [start]
+    for id in vertices:
+        _, owner, successors, _ = game.rows[id]
+        moves[id] = [solution[id][1]] if owner == winner else successors
+        new = [to for to in moves[id] if to not in moves]
+        moves.update(dict.fromkeys(new))
+        vertices += new
+    part = Game({id: (*game.rows[id][:2], moves[id], game.rows[id][3]) for id in sorted(moves)}, start=start)
+    part.given = game.given
+    return part
+
+
+def winner(given):
+    game = game_of(given.game, given)
+    start = game.start if given.vertex is None else given.vertex
+    if start not in game.rows:
+        why = (
+            "no line `start` names a vertex: --vertex does"
+            if start is None
+            else f"there is no vertex {start}"
+        )
+        raise Refused(f"{called(given.game)}: {why}")
+    solution = engine.solved(game, timeout=given.timeout).solution.rows
+    part, player = reached(game, solution, start), solution[start][0]
+    if given.json:
+        print_json(
+            {"vertex": start, "winner": player, **({"reach": sorted(part.rows)} if given.reach else {})}
+        )
+    elif given.reach:
+        print(Solution({id: solution[id] for id in part.rows}).written(), end="", flush=True)
+    else:
+        print(f"{PLAYERS[player]} wins vertex {start}", flush=True)
+    if given.part:
+        write(given.part, part.written())
+    if given.picture:
+        pictures.write_picture(
+            given.picture, len(part.rows), pictures.of_game(part, {id: solution[id] for id in part.rows})
+        )
+    return player
+
+
+def journal_of(path, text):
+    """The entries of a trace, each with the (winner, choice or None) of the vertices that it settles."""
+    entries, at = [], 0
+    for line in text.splitlines(keepends=True):
+        head = re.fullmatch(r"entry \d+ \d+ ([01]) \d+ \d+\n", line)
+        row = re.fullmatch(r"([0-9]{1,10})(?: ([0-9]{1,10}))?;\n", line)
+        if head:
+            player = int(head[1])
+            entries.append(Solution({}, path, text))
+        elif row and entries:
+            entries[-1].rows[int(row[1])] = player, row[2] and int(row[2])
+            entries[-1].places[int(row[1])] = at
+        elif line.startswith("report "):
+            return entries
+        elif not line.startswith("journal "):
+            raise Refused("this is no line of a trace", place=(path, text, at))
+        at += len(line)
+    raise Refused(f"{called(path)}: the trace has no report")
+
+
+def draw(given):
+    if given.trace is not None and given.solution is not None:
+        raise Refused("--trace comes without a SOLUTION", WORDS)
+    if given.entries is not None and (given.trace is None or given.entries < 0):
+        raise Refused(
+            "--entries comes with --trace"
+            if given.trace is None
+            else f"--entries: K is below 0: {given.entries}",
+            WORDS,
+        )
+    second = given.solution if given.trace is None else given.trace
+    first, *rest = texts_of(given.game, *([] if second is None else [second]))
+    game, solution = game_of_text(given.game, first, given), {}
+    pictures.check_count(given.game, len(game.rows))
+    parts = (
+        []
+        if second is None
+        else journal_of(second, rest[0])[: given.entries]
+        if given.trace
+        else [solution_of(second, rest[0])]
+    )
+    for part in parts:
+        part.check(game, is_part=True)
+        for id, (winner, choice) in part.rows.items():
+            if choice is not None and winner == game.rows[id][1] and choice not in game.rows[id][2]:
+                part.refuse(id, f"{choice} is no successor of {id} in this game")
+        solution.update(part.rows)
+    text = pictures.of_game(game, solution)
+    made = (
+        text.encode("utf-8", "surrogateescape") if not given.kind else pictures.made_by_dot(text, given.kind)
+    )
+    sys.stdout.buffer.write(made)
+
+
+def stats(given):
+    numbers = statistics.of_game(game_of(given.game, given))
+    if given.json:
+        return print_json(numbers)
+    return print(statistics.text(numbers), end="")
+
+
+def parser():
+    top = Parser(__doc__, "`WORD --help` says more of a word.", False, prog="python3 -m pgboard")
+    words = top.add_subparsers(metavar="WORD", required=True, parser_class=Parser)
+
+    def word(call, name, about, status=DONE, solution=None):
+        made = words.add_parser(
+            name,
+            help=about.split("\n")[0],
+            description=about,
+            epilog=f"status: {status}{STATUSES}",
+            is_raw=False,
+        )
+        made.set_defaults(call=call)
+        add_game(made, solution)
+        return made
+
+    it = word(
+        solve,
+        "solve",
+        SOLVE,
+        "0 where it is done, 1 where what is known does not hold, 6 where --timeout was not enough, ",
+    )
+    it.add_argument("--known", metavar="FILE", help="begin from a part of a solution")
+    it.add_argument("--timeout", metavar="S", type=seconds, help="end after so many seconds, with status 6")
+    it.add_argument("--partial", action="store_true", help="with --timeout: write what is settled by then")
+    it.add_argument("--keep-names", action="store_true", help="write the name of a vertex after its line")
+    it.add_argument(
+        "--stats",
+        action="store_true",
+        help="also write what `stats` does, winners, time and entries, to standard error",
+    )
+    add_json(it)
+    add_json(
+        word(
+            verify,
+            "verify",
+            "Says whether a solution is one, and if not, what is wrong first.",
+            JUDGED,
+            "one",
+        )
+    )
+    it = word(explains, "explain", EXPLAIN, JUDGED, "one")
+    it.add_argument(
+        "--picture",
+        metavar="FILE",
+        type=pictures.path,
+        help="draw what is wrong, in .dot, .svg, .png or .pdf",
+    )
+    it = word(
+        winner, "winner", WINNER, "0 where Even wins, 1 where Odd wins, 6 where --timeout was not enough, "
+    )
+    it.add_argument("--vertex", metavar="V", type=number, help="the vertex, by its identifier")
+    it.add_argument("--timeout", metavar="S", type=seconds, help="end after so many seconds, with status 6")
+    it.add_argument(
+        "--reach", action="store_true", help="write the part that a play from there can reach, as a solution"
+    )
+    it.add_argument("--game", dest="part", metavar="FILE", help="write that part as a game of one player")
+    it.add_argument(
+        "--picture", metavar="FILE", type=pictures.path, help="draw that part, in .dot, .svg, .png or .pdf"
+    )
+    add_json(it)
+    word(convert, "convert", CONVERT).add_argument(
+        "--solution", action="store_true", help="the input is a solution, as PGSolver or Oink print it"
+    )
+    it = word(draw, "draw", DRAW, solution="?")
+    kinds = it.add_mutually_exclusive_group()
+    for kind in pictures.KINDS[1:]:
+        kinds.add_argument(
+            f"--{kind}",
+            dest="kind",
+            action="store_const",
+            const=kind,
+            help="write this picture, not Graphviz text",
+        )
+    it.add_argument("--trace", metavar="TRACE", help="draw what an output of `pgboard trace` settles")
+    it.add_argument("--entries", metavar="K", type=number, help="of its first K entries alone")
+    add_json(
+        word(
+            stats,
+            "stats",
+            "Counts vertices, edges, owners, priorities, own loops, degrees and components.",
+        )
+    )
+    return top, words.choices
+
+
+def main(words):
+    top, each = parser()
+    # (options may come between the words of one)
+    given = (
+        each[words[0]].parse_intermixed_args(words[1:])
+        if words[:1] and words[0] in each
+        else top.parse_args(words)
+    )
+    return given.call(given)

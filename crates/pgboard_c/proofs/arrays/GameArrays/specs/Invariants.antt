@@ -1,0 +1,5 @@
+use Rattle.pgboard_c.proofs.Common.{◌≡◌, specs_below, game_lists}
+use Rattle.pgboard_c.proofs.arrays.GameArrays.specs.Given as goal
+
+abbrev pub invariant-loop-v : goal.invariant-loop-v
+invariant-loop-v l = l.specs ≡ specs_below (game_lists l.self) l.v
