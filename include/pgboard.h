@@ -325,9 +325,9 @@ uint32_t pgboard_board_finish_within(struct pgboard_board *board, uint64_t steps
  * call makes one search or, after the last search, takes up to `*steps` steps of the recursion. It leaves in `*steps` the number of
  * steps that it did not take; a search takes none. The answer is PGBOARD_OK once all is settled, and before that PGBOARD_GAVE_UP,
  * which is no fault here. What is settled stays, whatever the answer. The next call goes on where this one ended. If a post was
- * accepted in between, or memory was refused, it begins anew. So a program can do something else between two calls, or stop. A loop
- * of calls with at least one step each, and finitely many accepted posts between them, ends. The faults are PGBOARD_BOARD_CLOSED
- * and PGBOARD_MEMORY. */
+ * accepted in between, or memory was refused, it begins anew. So a program can do something else between two calls, or stop. Memory
+ * aside, a loop of calls with at least one step each, and finitely many accepted posts between them, ends. The faults are
+ * PGBOARD_BOARD_CLOSED and PGBOARD_MEMORY. */
 PGBOARD_CALL
 uint32_t pgboard_board_advance(struct pgboard_board *board, uint64_t *steps, struct pgboard_report *report);
 
