@@ -1,8 +1,10 @@
 #!/usr/bin/env python3
-"""Writes the games that the worked uses of examples/ make of a model and of a specification: `uses.py FOLDER NAME..`.
+"""Writes the games that the worked uses of examples/ make of a model and of a specification: `uses.py FOLDER
+NAME..`.
 
-A name is modelcheck_N or synthesise_N, of a game of about N vertices. Model and specification are random, from a fixed seed,
-and are the same in each run. Next to the game NAME.pg stands NAME.aut or NAME.hoa, of which it was made.
+A name is modelcheck_N or synthesise_N, of a game of about N vertices. Model and specification are random,
+from a fixed seed, and are the same in each run. Next to the game NAME.pg stands NAME.aut or NAME.hoa, of
+which it was made.
 """
 
 import os
@@ -19,7 +21,10 @@ from pgboard.command.games import Game
 CONDITION = "Fin(5) & (Inf(4) | (Fin(3) & (Inf(2) | (Fin(1) & Inf(0)))))"
 
 # fixed points that alternate three deep, with priorities from 0 to 2
-FORMULA = "nu A. ([true] A && [ask] nu X. mu Y. (([fail] X && [work] Y) || (<answer> true || <ask> nu Z. (<work> Z || <fail> Y))))"
+FORMULA = (
+    "nu A. ([true] A && [ask] nu X. mu Y. "
+    "(([fail] X && [work] Y) || (<answer> true || <ask> nu Z. (<work> Z || <fail> Y))))"
+)
 LABELS = ["ask", "answer", "fail", *["work"] * 5]
 
 
@@ -34,7 +39,9 @@ def model_of(chance, states):
 
 
 def specification_of(chance, states):
-    """An automaton of six sets, of which the greater ones are rare: in each state one input says which of two outputs matters."""
+    """An automaton of six sets, of which the greater ones are rare: in each state one input says which of
+    two outputs matters.
+    """
     lines = ['HOA: v1\nStart: 0\nAP: 4 "i0" "i1" "o0" "o1"\ncontrollable-AP: 2 3\n']
     lines.append(f"Acceptance: 6 {CONDITION}\n--BODY--\n")
     for state in range(states):

@@ -1,30 +1,17 @@
-# Completion of pgboard for bash. (tests/help.py --write makes this file from the program's help)
+# Completion of pgboard for bash. (tools/help makes this file)
 _pgboard() {
-    local word=${COMP_WORDS[COMP_CWORD]} before=${COMP_WORDS[COMP_CWORD - 1]} command= it words
-    for it in "${COMP_WORDS[@]:1:COMP_CWORD-1}"; do
-        case $it in solve | trace | verify | tidy | help) command=$it && break ;; esac
-    done
-    case $before in
-    --workers) words=$(printf '%s ' {1..64}) ;;
-    --bound) words=$(printf '%s ' {0..8}) ;;
-    --known) words= ;;
-    --install) words= ;;
-    *)
-        case $command in
-        '')
-            words='solve trace verify tidy help --help --version'
-            # (where the command is the script ./pgboard)
-            if [ "$(head -c 2 -- "$(type -P -- "${COMP_WORDS[0]}")" 2>/dev/null)" = '#!' ]; then words+=' --unproved --rebuild --install'; fi
-            ;;
-        help) words='solve trace verify tidy help' ;;
+    local word=${COMP_WORDS[COMP_CWORD]} words=
+    case $COMP_CWORD:${COMP_WORDS[COMP_CWORD - 1]}:$word in
+    1:*:-*) words='--help --version' ;;
+    1:* | *:help:*) words='solve trace verify tidy help' ;;
+    *:--workers:*) words=$(seq 1 64) ;;
+    *:--bound:*) words=$(seq 0 8) ;;
+    *:*:-*)
+        case ${COMP_WORDS[1]} in
         solve) words='--workers --bound --winners --known --help' ;;
         trace) words='--workers --help' ;;
-        verify | tidy) words='--help' ;;
-        esac
-        # flags where one begins, and the other words where none does
-        case $word in
-        -*) ;;
-        *) words=$(printf '%s\n' $words | grep -v '^-') ;;
+        verify) words='--help' ;;
+        tidy) words='--help' ;;
         esac
         ;;
     esac

@@ -18,7 +18,7 @@ import sys
 from lib.formulas import Formula, Labels, named
 from pgboard.command import Parser, Refused, engine, pictures, progress, run, shown, write
 from pgboard.command.games import MOST_VERTICES, Game
-from pgboard.command.texts import texts_of
+from pgboard.command.texts import Text, texts_of
 
 HELP = """
 formulas, as mCRL2 writes them, from what binds least to what binds most:
@@ -52,12 +52,13 @@ status: 0 where the formula holds, 1 where it doesn't, 2 or more where
 something was refused
 """
 
-HEAD = re.compile(
-    r"\s*des[^\S\n]*\([^\S\n]*([0-9]+)[^\S\n]*,[^\S\n]*([0-9]+)[^\S\n]*,[^\S\n]*([0-9]+)[^\S\n]*\)[^\S\n]*(?:\n|\Z)"
-)
 MOST_STATES = 1 << 31
 # blanks, but no line feed
-LINE = r'[^\S\n]*\([^\S\n]*([0-9]{1,10})[^\S\n]*,(?:[^\S\n]*("[^"\n]*"|[^\s",](?:[^",\n]*[^\s",])?))?[^\S\n]*,[^\S\n]*([0-9]{1,10})[^\S\n]*\)[^\S\n]*'
+BLANK = r"[^\S\n]*"
+NUMBER, STATE = f"{BLANK}([0-9]+){BLANK}", f"{BLANK}([0-9]{{1,10}}){BLANK}"
+LABEL = r'"[^"\n]*"|[^\s",](?:[^",\n]*[^\s",])?'
+HEAD = re.compile(rf"\s*des{BLANK}\({NUMBER},{NUMBER},{NUMBER}\){BLANK}(?:\n|\Z)")
+LINE = rf"{BLANK}\({STATE},(?:{BLANK}({LABEL}))?{BLANK},{STATE}\){BLANK}"
 TRANSITION = re.compile(LINE)
 TRANSITIONS = re.compile(f"(?m)^{LINE}$")
 # what a word may be that is meant as a file's name
@@ -66,16 +67,15 @@ FILE_NAME = re.compile(r"[\w./~-]*(/[\w.-]+|\w\.[a-z]\w*)")
 MANY = 1 << 16
 
 
-class Model:
+class Model(Text):
     """A labelled transition system: of each state its transitions, (label, state)."""
 
     def __init__(self, path, text):
-        self.path, self.text = path, text
+        super().__init__(path, text)
         head = HEAD.match(text)
         if not head:
-            self.refuse(
-                "not of the form: des (first state, transitions, states)", re.search(r"\S|$", text).start()
-            )
+            begins = re.search(r"\S|$", text).start()
+            self.refuse("not of the form: des (first state, transitions, states)", begins)
         self.first, count, self.states = (int(it[:99]) for it in head.groups())
         if self.states > MOST_STATES:
             self.refuse("too many states: at most 2147483648", head.start(3))
@@ -84,17 +84,14 @@ class Model:
         given = sum(1 for line in rest.split("\n") if line and not line.isspace())
         self.next = {}
         for state, label, to in found:
-            self.next.setdefault(int(state), []).append((label[1:-1] if label[:1] == '"' else label, int(to)))
-        greatest = max(
-            (max(state, max(to for _, to in moves)) for state, moves in self.next.items()), default=0
-        )
+            label = label[1:-1] if label[:1] == '"' else label
+            self.next.setdefault(int(state), []).append((label, int(to)))
+        reached = (to for moves in self.next.values() for _, to in moves)
+        greatest = max(max(self.next, default=0), max(reached, default=0))
         if len(found) != given or greatest >= self.states:
             self.refuse_line(head.end())
         if count != given:
             self.refuse(f"{count} transitions are announced, and {given} follow", head.start(2))
-
-    def refuse(self, why, at):
-        raise Refused(why, place=(self.path, self.text, at))
 
     def refuse_line(self, at):
         """Refuses the first line that is no transition of these states."""
@@ -151,16 +148,10 @@ class Product:
         staying.
         """
         vertices, count, numbers = self.vertices, self.count, {self.vertices[0]: 0}
-        kinds = [
-            (
-                priority,
-                int(operator in ("&&", "[")),
-                list(dict.fromkeys(parts)),
-                int(operator == "<"),
-                targets,
-            )
-            for (operator, priority, _, parts), targets in zip(self.formula.parts, self.targets)
-        ]
+        kinds = []
+        for (operator, priority, _, parts), targets in zip(self.formula.parts, self.targets):
+            owner, lost = int(operator in ("&&", "[")), int(operator == "<")
+            kinds.append((priority, owner, list(dict.fromkeys(parts)), lost, targets))
         for vertex in vertices:  # which grow on the way
             state, part = divmod(vertex, count)
             priority, owner, parts, lost, targets = kinds[part]
@@ -208,9 +199,8 @@ class Product:
             to = [solution[at][1]] if owner == winner else successors
             if self.taken[part] is not None:
                 ends = {self.vertices[it] // self.count for it in to}
-                moves = [
-                    it for it in self.model.next.get(state, ()) if it[0] in self.taken[part] and it[1] in ends
-                ]
+                moves = self.model.next.get(state, ())
+                moves = [it for it in moves if it[0] in self.taken[part] and it[1] in ends]
                 found.update(((state, *move), None) for move in moves[: 1 if owner == winner else None])
             reached.extend(it for it in to if it not in seen)
             seen.update(to)
@@ -224,15 +214,8 @@ def aldebaran(model, transitions):
 
 def draw(path, model, transitions):
     states = sorted({model.first, *(state for state, _, _ in transitions), *(to for _, _, to in transitions)})
-    lines = [
-        "rankdir=LR",
-        "node [shape=circle]",
-        "first [shape=point]",
-        f"first -> {model.first}",
-        *map(str, states),
-    ]
-    lines += [f"{state} -> {to} [label={pictures.quoted(label)}]" for state, label, to in transitions]
-    pictures.draw(path, len(states), lines)
+    arrows = ((state, to, label) for state, label, to in transitions)
+    pictures.draw_machine(path, len(states), model.first, arrows, states)
 
 
 def options(words):
@@ -246,9 +229,7 @@ def options(words):
     parser.add_argument(
         "--evidence", metavar="FILE", help="write the part of the model that the winner's strategy reaches"
     )
-    parser.add_argument(
-        "--picture", metavar="FILE", type=pictures.path, help="draw that part, in .dot, .svg, .png or .pdf"
-    )
+    pictures.add_option(parser, "that part")
     parser.add_argument("--game", metavar="FILE", help="write the game, whose names say state and subformula")
     return parser.parse_args(words)
 
@@ -261,9 +242,8 @@ def formula_of(word, text):
         return Formula("formula", word)
     except Refused as refused:
         if os.path.isfile(word) or FILE_NAME.fullmatch(word):
-            refused.args = (
-                f"{refused}; the name of a formula's file ends in .mcf, or it is - for standard input",
-            )
+            said = "the name of a formula's file ends in .mcf, or it is - for standard input"
+            refused.args = (f"{refused}; {said}",)
         raise
 
 

@@ -90,7 +90,7 @@ class Play(Arena):
 
 
 def merged(machine):
-    """The machine in which states that behave alike are one, by finer and finer groups of them (Moore 1956)."""
+    """The machine in which states that behave alike are one, by finer and finer groups (Moore 1956)."""
     group, count = dict.fromkeys(machine, 0), 1
     while True:
         lines = {state: grouped(machine[state], group) for state in machine}
@@ -206,12 +206,8 @@ def draw(path, rows):
     arrows = {}
     for read, state, to, written in rows:
         arrows.setdefault((state, to), []).append(f"{read} / {written}")
-    lines = ["rankdir=LR", "node [shape=circle]", "first [shape=point]", f"first -> {rows[0][1]}"]
-    lines += [
-        f"{state} -> {to} [label={pictures.quoted(chr(10).join(labels))}]"
-        for (state, to), labels in arrows.items()
-    ]
-    pictures.draw(path, len({it[1] for it in rows}), lines)
+    labelled = ((*ends, "\n".join(labels)) for ends, labels in arrows.items())
+    pictures.draw_machine(path, len({it[1] for it in rows}), rows[0][1], labelled)
 
 
 def main(words):
@@ -219,11 +215,10 @@ def main(words):
     parser.add_argument(
         "specification", metavar="SPEC.hoa", help="an automaton or a game; - is standard input"
     )
-    circuits = f"write a circuit of at most {aiger.MOST_VARIABLES} inputs and bits of state: ASCII to .aag and -, binary to .aig"
+    circuits = f"write a circuit of at most {aiger.MOST_VARIABLES} inputs and bits of state: "
+    circuits += "ASCII to .aag and -, binary to .aig"
     parser.add_argument("--aiger", metavar="FILE", type=aiger.path, help=circuits)
-    parser.add_argument(
-        "--picture", metavar="FILE", type=pictures.path, help="draw the machine, in .dot, .svg, .png or .pdf"
-    )
+    pictures.add_option(parser, "the machine")
     parser.add_argument("--game", metavar="FILE", help="write the game")
     given = parser.parse_args(words)
     automaton = Automaton(given.specification, text_of(given.specification))

@@ -236,7 +236,8 @@ uint32_t pgboard_verify_text(const uint8_t *game, size_t game_len, const uint8_t
  *
  * Set the struct to zero before the first call: that is a closed board. Never look into it. To move an open board, copy its struct
  * and set the old one to zero: an open board may not have two. After any answer but PGBOARD_OK the board is unchanged, except after
- * pgboard_board_advance. Each call has a board for itself, also one that only reads. Threads that share a board take turns:
+ * pgboard_board_advance. No two calls may use a board at once, not even calls that only read. Threads that share a board take
+ * turns:
  *
  *     static pthread_mutex_t turn = PTHREAD_MUTEX_INITIALIZER;
  *     pthread_mutex_lock(&turn);

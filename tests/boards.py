@@ -1,13 +1,13 @@
 #!/usr/bin/env python3
 """Tests of examples/board and bench/library over the static library: tests/boards.py [PROGRAM] [-k WORD]
 
-What referee.py says of stand-in solvers is what the plain board (plain_board.py) says of the same claims, posted in the same order, and
-what it prints is a solution by the definitions. The solvers print right, wrong, partial and damaged solutions, or nonsense, crash, or
-never end; bench's comparator is one. hard.cpp, built by two compilers and with sanitizers, prints solutions of random games, and of
-games that take the recursion long; so it does beside a liar (liar.c), and where each of its claims is changed. Its faults are pgboard's.
+What referee.py says of stand-in solvers is known, and what it prints is a solution by the definitions. The
+solvers print right, wrong and partial solutions, or nonsense, crash, or never end. hard.cpp, built by two
+compilers and with sanitizers, prints solutions of random games, and of games that take the recursion long. So
+it does beside a liar (liar.c), and where each of its claims is changed. Its faults are pgboard's.
 
-bench/library.cpp prints solutions of random games in each of its modes. bench/library names a wrong solution, its cells are worked out
-again from figures that are given, and the commands of docs/BENCHMARKS.md print its tables.
+bench/library.cpp prints solutions of random games in each of its modes. bench/library names a wrong solution,
+its cells are worked out again from given figures, and the commands of docs/BENCHMARKS.md print its tables.
 
 PGBOARD_ARCHIVE names another static library, as in embed.py.
 """
@@ -24,52 +24,32 @@ import xml.etree.ElementTree
 
 import common
 import embed
-import faults
 import plain
-import plain_board
 import random_games
 
 BOARD = common.ROOT / "examples" / "board"
 SAID = re.compile(r"referee: solver (\d+) \((.*)\): (.*), \d+\.\d s: (.*)")
-PLAYERS = "Even", "Odd"
-REFUSED = {
-    "shape": "no choice, or a bad one, at {0}", "cycle": "bad cycle at {0}", "lost": "{0} is settled for the other player",
-    "stale": "all of it is settled already", "open": "{0} leaves to {1}",
-}  # fmt: skip
 GAME = {3: (2, 0, {3, 9}), 9: (1, 1, {9}), 12: (0, 1, {3})}
-# what no solver may print, and what is said of it
-NONSENSE = {
+# what a solver prints, and what is said of it
+SAID_OF = {
+    "3 0 3; 9 1 9; 12 0;": "Even settled 2, of which 2 of 2 claimed; Odd settled 1, of which 1 of 1 claimed",
+    "3 0 3;": "Even settled 2, of which 1 of 1 claimed",
+    # (the winner of 12 does not own it)
+    "3 0 3; 12 0 3;": "Even settled 2, of which 2 of 2 claimed",
+    "3 0 9;": "Even refused: 3 leaves to 9",
+    "3 0 9; 9 0;": "Even refused: bad cycle at 9",
+    "3 0; 9 1 9;": "Even refused: no choice, or a bad one, at 3; Odd settled 1, of which 1 of 1 claimed",
+    "9 1 12; 12 1 3;": "Odd refused: no choice, or a bad one, at 9",
     "": "nothing is claimed",
-    "hello": "output:1:1: expected an identifier, found hello",
     "\n\nhello;\n3 0 3;": "output:3:1: expected an identifier, found hello",
-    "3 0 3; 9 1 9\n9 1;": "output:2:1: expected a semicolon, found 9",
     "3 0 3;\n\n 9 2 9;": "output:3:4: expected a winner, 0 or 1, found 2",
     "4 0;": "vertex 4 is not in the game",
     "3 0 3; 9 1 9; 3 0 3;": "output:1:15: vertex 3 is written twice",
-    "99999999999 0;": "output:1:1: this number is above 2147483647",
-    "paritysol 12;": "nothing is claimed",
-    "9 1 9 9;": "output:1:7: expected a semicolon, found 9",
-    "3 0 3;\xff\xfe;": "output:1:7: expected an identifier, found \ufffd",
+    "\xff;": "output:1:1: expected an identifier, found \ufffd",
     "paritysol 1; paritysol 2; 9 1 4;": "Odd refused: no choice, or a bad one, at 9",
-    "won by odd: 9->9\nwon by even: 12 3->3": "Even settled 2, of which 2 of 2 claimed; Odd settled 1, of which 1 of 1 claimed",
+    "won by odd: 9->9\nwon by even: 12 3->3": "Even settled 2, of which 2 of 2 claimed; "
+    "Odd settled 1, of which 1 of 1 claimed",
 }  # fmt: skip
-
-
-def said_of(board, worker, solution):
-    """What the referee has to say of a solver's solution, by the plain board, which takes over what is posted."""
-    said = []
-    for player in (0, 1):
-        rows = [(id, choice if board.game[id][1] == player else None) for id, (winner, choice) in sorted(solution.items()) if winner == player]
-        fault = rows and board.fault(player, rows)
-        if fault:
-            name, at, to = fault
-            said.append(f"{PLAYERS[player]} refused: {REFUSED[name].format(rows[at][0] if name == 'shape' else at, to)}")
-        elif rows:
-            won, rest = board.region(player), board.rest(rows)
-            new = plain.attracted(board.game, won | {v for v, _ in rest}, player) - won
-            board.add((worker, player, len(rest), [(v, None) for v in new]))
-            said.append(f"{PLAYERS[player]} settled {len(new)}, of which {len(rest)} of {len(rows)} claimed")
-    return "; ".join(said) or "nothing is claimed"
 
 
 @common.needs("rt", "cc")
@@ -103,13 +83,17 @@ class Referee(Boards):
 
     def after(self, worker, commands):
         """A solver that runs commands of sh once the referee has said what became of another solver."""
-        return f"sh -c 'until grep -q \"solver {worker} \" {self.folder / 'said'}; do sleep 0.05; done; {commands}'"
+        said = self.folder / "said"
+        return f"sh -c 'until grep -q \"solver {worker} \" {said}; do sleep 0.05; done; {commands}'"
 
     def referee(self, game, *solvers, more=(), **how):
-        """The lines of each solver as (worker, command, how it ended, what was done), and how many vertices were left to the board.
-        What is printed has to be a solution."""
+        """The lines of each solver as (worker, command, how it ended, what was done), and how many vertices
+        were left to the board. What is printed has to be a solution.
+        """
         words = [it for solver in solvers for it in ("--solver", solver)]
-        status, out, err = self.run_script(*words, *more, self.file("game.pg", plain.written_game(game)), **how)
+        status, out, err = self.run_script(
+            *words, *more, self.file("game.pg", plain.written_game(game)), **how
+        )
         self.assertEqual(status, 0, err)
         self.solves(game, out)
         *lines, last = err.splitlines()
@@ -119,84 +103,84 @@ class Referee(Boards):
         return [SAID.fullmatch(line).groups() for line in lines], int(left[1])
 
     def test_the_example_of_the_page(self):
-        command, printed = re.search(r"(?ms)^```console\n\$ python3 (.*?)\n(.*?)^```$", common.text_of("examples", "README.md")).groups()
-        status, out, err = common.run(["bash", "-c", f"exec 2>&1; {sys.executable} -B {command}"], env=self.env, cwd=common.ROOT)
+        command, printed = re.search(
+            r"(?ms)^```console\n\$ python3 (.*?)\n(.*?)^```$", common.text_of("examples", "README.md")
+        ).groups()
+        status, out, err = common.run(
+            ["bash", "-c", f"exec 2>&1; {sys.executable} -B {command}"], env=self.env, cwd=common.ROOT
+        )
         self.assertEqual((status, err), (0, b""))
         seconds = lambda text: re.sub(r"\d+\.\d s", "N s", text)
         self.assertEqual(seconds(out.decode()), seconds(printed))
 
-    def test_random_solutions_against_the_plain_board(self):
-        said_words = set()
-        for seed in range(80):
-            chance = random.Random(seed)
-            game = random_games.random_game(chance)
-            right = random_games.right_solution(game)
-            solutions, solvers = [], []
-            for at in range(chance.choice([1, 1, 2, 3])):
-                part = random_games.some_of(chance, right)
-                kinds = [right, part, random_games.with_a_fault(chance, game, right), random_games.with_a_fault(chance, game, part)]
-                solutions.append(chance.choice([*kinds, random_games.random_solution(chance, game)]))
-                path = self.file(f"{at}.sol", random_games.random_solution_text(chance, solutions[-1]))
-                solvers.append(f"cat {path}")
-            lines, left = self.referee(game, *solvers)
-            board = plain_board.Board(game)
-            for worker, command, ended, said in lines:
-                self.assertEqual(command, solvers[int(worker) - 1])
-                is_ended = len(board.state()) == len(game) and ended == "ended, since the board is full"
-                wanted = said_of(board, int(worker), solutions[int(worker) - 1])
-                late = [(ended, it) for it in (wanted, "nothing is claimed") if is_ended]
-                self.assertIn((ended, said), [("status 0", wanted), *late], (game, solutions, lines))
-                said_words.update(re.findall("cycle|choice|leaves|already|claimed", said))
-            self.assertEqual(left, len(game) - len(board.state()))
-        self.assertEqual(len(said_words), 5, said_words)
-
     def test_what_another_solver_has_settled_is_lost(self):
         game = {3: (2, 0, {9}), 9: (1, 1, {9}), 12: (0, 0, {12})}
-        lines, left = self.referee(game, f"cat {self.file('odd', '9 1 9;')}", self.after(1, f"cat {self.file('even', '3 0 9; 9 1 9;')}"))
-        wanted = ["Odd settled 2, of which 1 of 1 claimed", "Even refused: 3 is settled for the other player; Odd refused: all of it is settled already"]
+        lines, left = self.referee(
+            game,
+            f"cat {self.file('odd', '9 1 9;')}",
+            self.after(1, f"cat {self.file('even', '3 0 9; 9 1 9;')}"),
+        )
+        wanted = [
+            "Odd settled 2, of which 1 of 1 claimed",
+            "Even refused: 3 is settled for the other player; Odd refused: all of it is settled already",
+        ]
         self.assertEqual(([it[3] for it in lines], left), (wanted, 1))
 
-    def test_what_a_solver_does_not_print_well_is_named(self):
-        for text, said in NONSENSE.items():
+    def test_what_is_said_of_a_solver(self):
+        for text, said in SAID_OF.items():
             with self.subTest(text):
                 lines, left = self.referee(GAME, f"cat {self.file('solution', text.encode('latin-1'))}")
-                self.assertEqual((lines[0][2:], left), (("status 0", said), 0 if "settled" in said else 3))
+                settled = sum(map(int, re.findall(r"settled (\d)", said)))
+                self.assertEqual((lines[0][2:], left), (("status 0", said), len(GAME) - settled))
 
-    def test_random_bytes(self):
-        for seed in range(20):
-            chance = random.Random(seed)
-            text = random_games.damaged(chance, random_games.random_solution_text(chance, random_games.random_solution(chance, GAME)))
-            self.referee(GAME, f"cat {self.file('solution', text)}", f"head -c 1000 {self.file('bytes', chance.randbytes(1000))}")
-
-    def test_a_solver_that_crashes_is_heard(self):
-        half = self.file("half", "paritysol 12;\n9 1 9;\n3 0")
+    def test_a_solver_that_crashes_is_heard_and_what_it_started_is_ended(self):
+        half, pid = self.file("half", "paritysol 12;\n9 1 9;\n3 0"), self.folder / "pid"
         ends = {"exit 3": "status 3", "kill -SEGV $$": "signal 11", "kill -9 $$": "signal 9"}
         for end, how in ends.items():
-            lines, left = self.referee(GAME, f"sh -c 'cat {half}; {end}'")
+            solver = f"sh -c 'sleep 600 >/dev/null & echo $! >{pid}; cat {half}; {end}'"
+            lines, left = self.referee(GAME, solver, more=["--time", "600"])
             self.assertEqual((lines[0][2:], left), ((how, "Odd settled 1, of which 1 of 1 claimed"), 2))
+            common.wait_until(lambda: not common.is_alive(int(pid.read_text(encoding="ascii"))))
         self.assertEqual(self.referee(GAME, "false")[0][0][2:], ("status 1", "nothing is claimed"))
 
     def test_a_solver_that_never_ends_is_ended_with_all_that_it_started(self):
         half, pid = self.file("half", "9 1 9; 3 0"), self.folder / "pid"
         begun = time.monotonic()
-        lines, left = self.referee(GAME, f"sh -c 'sleep 600 & echo $! > {pid}; cat {half}; wait'", "sleep 600", more=["--time", "4.5"])
+        lines, left = self.referee(
+            GAME,
+            f"sh -c 'sleep 600 & echo $! > {pid}; cat {half}; wait'",
+            "sleep 600",
+            more=["--time", "4.5"],
+        )
         self.assertEqual([it[2] for it in lines], ["ended after 4.5 s"] * 2)
-        self.assertEqual(({it[0]: it[3] for it in lines}, left), ({"1": "Odd settled 1, of which 1 of 1 claimed", "2": "nothing is claimed"}, 2))
+        self.assertEqual(
+            ({it[0]: it[3] for it in lines}, left),
+            ({"1": "Odd settled 1, of which 1 of 1 claimed", "2": "nothing is claimed"}, 2),
+        )
         self.assertLess(time.monotonic() - begun, 60)
         common.wait_until(lambda: not common.is_alive(int(pid.read_text(encoding="ascii"))))
 
     def test_what_a_solver_starts_in_another_session_does_not_hold_it_up(self):
         self.file("game.pg", "0 0 0 0;\n")
-        solver = common.load(BOARD / "referee.py").Solver(1, "sh -c 'echo \"0 0 0;\"; setsid sleep 60 2>/dev/null &'")
+        solver = common.load(BOARD / "referee.py").Solver(
+            1, "sh -c 'echo \"0 0 0;\"; setsid sleep 60 2>/dev/null &'"
+        )
         begun = time.monotonic()
-        self.assertEqual((solver.run("", 0.5, str(self.folder)), solver.how_it_ended()), ("0 0 0;\n", "ended after 0.5 s"))
+        self.assertEqual(
+            (solver.run("", 0.5, str(self.folder)), solver.how_it_ended()), ("0 0 0;\n", "ended after 0.5 s")
+        )
         self.assertLess(time.monotonic() - begun, 40)
 
     def test_a_full_board_ends_the_other_solvers(self):
         begun = time.monotonic()
-        lines, left = self.referee(GAME, "sleep 600", f"cat {self.file('all', '3 0 3; 9 1 9; 12 0;')}", more=["--time", "600"])
+        lines, left = self.referee(
+            GAME, "sleep 600", f"cat {self.file('all', '3 0 3; 9 1 9; 12 0;')}", more=["--time", "600"]
+        )
         all_of_it = "Even settled 2, of which 2 of 2 claimed; Odd settled 1, of which 1 of 1 claimed"
-        self.assertEqual([it[2:] for it in lines], [("status 0", all_of_it), ("ended, since the board is full", "nothing is claimed")])
+        self.assertEqual(
+            [it[2:] for it in lines],
+            [("status 0", all_of_it), ("ended, since the board is full", "nothing is claimed")],
+        )
         self.assertEqual(left, 0)
         self.assertLess(time.monotonic() - begun, 60)
 
@@ -204,10 +188,20 @@ class Referee(Boards):
         scratch, pids = self.folder / "scratch", self.folder / "pids"
         for it in (scratch, pids):
             it.mkdir()
-        words = [it for at in range(3) for it in ("--solver", f"sh -c 'sleep 600 & echo $! > {pids}/{at}; touch {pids}/{at}.begun; wait'")]
-        how = {"stdout": subprocess.PIPE, "stderr": subprocess.PIPE, "env": {**self.env, "TMPDIR": str(scratch)}}
+        words = [
+            it
+            for at in range(3)
+            for it in (
+                "--solver", f"sh -c 'sleep 600 & echo $! > {pids}/{at}; touch {pids}/{at}.begun; wait'"
+            )
+        ]
+        how = {
+            "stdout": subprocess.PIPE, "stderr": subprocess.PIPE, "env": {**self.env, "TMPDIR": str(scratch)}
+        }
         heeds = lambda: signal.signal(signal.SIGINT, signal.SIG_DFL)
-        command = [sys.executable, "-B", BOARD / "referee.py", *words, self.file("game.pg", plain.written_game(GAME))]
+        command = [
+            sys.executable, "-B", BOARD / "referee.py", *words, self.file("game.pg", plain.written_game(GAME))
+        ]
         with subprocess.Popen(command, preexec_fn=heeds, **how) as ran:
             common.wait_until(lambda: len([*pids.glob("*.begun")]) == 3)
             self.assertEqual(len([*scratch.iterdir()]), 1)
@@ -221,36 +215,64 @@ class Referee(Boards):
 
     def by_hand(self, lines, *words):
         """A run of the script in which these lines come first."""
-        program = "\n".join([f"import sys; sys.path.insert(1, {str(BOARD)!r}); import referee", *lines, "referee.run('referee', referee.main)"])
+        program = "\n".join(
+            [
+                f"import sys; sys.path.insert(1, {str(BOARD)!r}); import referee",
+                *lines,
+                "referee.run('referee', referee.main)",
+            ]
+        )
         return {"script": ["-c", program], "more": words}
 
     def test_a_solver_that_is_ended_before_it_starts_is_not_started(self):
         begun, late = self.folder / "begun", "if self.worker == 2: import time; time.sleep(3)"
         # the second one's command is begun once the board is full
-        lines = ["start = referee.Solver.run", "def run(self, *given):", f"    {late}", "    return start(self, *given)", "referee.Solver.run = run"]
+        lines = [
+            "start = referee.Solver.run",
+            "def run(self, *given):",
+            f"    {late}",
+            "    return start(self, *given)",
+            "referee.Solver.run = run",
+        ]
         solvers = f"cat {self.file('all', '3 0 3; 9 1 9; 12 0;')}", f"sh -c 'touch {begun}; sleep 600'"
         said, left = self.referee(GAME, *solvers, **self.by_hand(lines, "--time", "600"))
-        self.assertEqual((said[1][2:], left, begun.exists()), (("ended, since the board is full", "nothing is claimed"), 0, False))
+        self.assertEqual(
+            (said[1][2:], left, begun.exists()),
+            (("ended, since the board is full", "nothing is claimed"), 0, False),
+        )
 
     def test_one_solver_is_posted_at_a_time(self):
         lines = [
-            "import threading, time; busy = threading.Lock(); post = referee.Referee.post_all", "def one(*given):",
-            "    alone = busy.acquire(blocking=False); time.sleep(0.2); found = post(*given)",
-            "    if alone: busy.release()", "    return found if alone else 'two at a time'",
+            "import threading, time",
+            "busy, post = threading.Lock(), referee.Referee.post_all",
+            "def one(*given):",
+            "    alone = busy.acquire(blocking=False)",
+            "    time.sleep(0.2)",
+            "    found = post(*given)",
+            "    if alone: busy.release()",
+            "    return found if alone else 'two at a time'",
             "referee.Referee.post_all = one",
-        ]  # fmt: skip
+        ]
         said, _ = self.referee(GAME, *[f"cat {self.file('odd', '9 1 9;')}"] * 4, **self.by_hand(lines))
         first = ["Odd settled 1, of which 1 of 1 claimed", *["Odd refused: all of it is settled already"] * 3]
         self.assertEqual([it[3] for it in said], first)
 
     def test_what_a_solver_says_on_standard_error_is_shown(self):
-        status, out, err = self.run_script("--solver", "sh -c 'echo out of luck >&2; exit 7'", self.file("game.pg", plain.written_game(GAME)))
+        status, out, err = self.run_script(
+            "--solver", "sh -c 'echo out of luck >&2; exit 7'", self.file("game.pg", plain.written_game(GAME))
+        )
         self.assertEqual((status, err.splitlines()[0]), (0, "out of luck"))
-        self.assertRegex(err.splitlines()[1], r"^referee: solver 1 .*: status 7, \d+\.\d s: nothing is claimed$")
+        self.assertRegex(
+            err.splitlines()[1], r"^referee: solver 1 .*: status 7, \d+\.\d s: nothing is claimed$"
+        )
 
     def test_a_solver_that_prints_without_end_is_ended(self):
-        lines, _ = self.referee(GAME, "yes '3 0 3;'", **self.by_hand(["referee.MOST = 10**6"], "--time", "600"))
-        self.assertEqual(lines[0][2:], ("ended, since it printed too much", "output:2:1: vertex 3 is written twice"))
+        lines, _ = self.referee(
+            GAME, "yes '3 0 3;'", **self.by_hand(["referee.MOST = 10**6"], "--time", "600")
+        )
+        self.assertEqual(
+            lines[0][2:], ("ended, since it printed too much", "output:2:1: vertex 3 is written twice")
+        )
 
     def test_how_a_solver_gets_the_game_and_gives_the_solution(self):
         solution = self.file("all", "3 0 3; 9 1 9; 12 0;")
@@ -272,29 +294,25 @@ class Referee(Boards):
         self.assertEqual(lines[0][2:], ("status 0", said))
 
     def test_the_game_may_have_any_form_and_be_standard_input(self):
-        for seed in range(10):
-            chance = random.Random(seed)
-            game = random_games.random_game(chance)
-            status, out, err = self.run_script("-", given=random_games.random_game_text(chance, game))
-            self.assertEqual((status, err), (0, f"referee: the board itself settled {len(game)} of {len(game)}\n"))
-            self.solves(game, out)
-
-    @unittest.skipUnless(random_games.COMPARATOR.exists() or common.IS_GATE, "bench.py has not built the comparator")
-    def test_the_comparator_is_a_solver(self):
-        for seed in range(20):
-            game = random_games.random_game(random.Random(seed), 60)
-            lines, left = self.referee(game, f"{random_games.COMPARATOR} solve {{game}}")
-            self.assertEqual((lines[0][2], left), ("status 0", 0), lines)
+        status, out, err = self.run_script("-", given=b'12 0 1 3 "c"; 9 1 1 9; 3 02 0 9, 3,3;')
+        self.assertEqual((status, err), (0, "referee: the board itself settled 3 of 3\n"))
+        self.solves(GAME, out)
 
     def test_the_picture_has_what_each_solver_settled(self):
         path = self.folder / "run.svg"
-        solvers = [f"cat {self.file('odd', '9 1 9;')}", self.after(3, f"sleep 0.3; cat {self.file('even', '3 0 3;')} # <&"), "false"]
+        solvers = [
+            f"cat {self.file('odd', '9 1 9;')}",
+            self.after(3, f"sleep 0.3; cat {self.file('even', '3 0 3;')} # <&"),
+            "false",
+        ]
         self.referee({**GAME, 20: (1, 1, {20})}, *solvers, more=["--picture", path])
         text = path.read_text(encoding="utf-8")
-        counts = {name: int(count) for count, name in re.findall(r'<text x="\d+" y="\d+">(\d+) (.*?)</text>', text)}
+        counts = {
+            name: int(count) for count, name in re.findall(r'<text x="\d+" y="\d+">(\d+) (.*?)</text>', text)
+        }
         names = ["the board itself", *(it.replace("&", "&amp;").replace("<", "&lt;") for it in solvers)]
         self.assertEqual(counts, dict(zip(names, [1, 1, 2, 0])))
-        # four vertices are 340 units high, and each line goes up by as many as its worker settled, and to the end
+        # four vertices are 340 units high, and each line goes up by as many as its worker settled
         for worker, count in enumerate([1, 1, 2, 0]):
             steps = re.search(rf'id="worker{worker}" d="M80,360\.0((?:H[\d.]+V[\d.]+)*)H720"', text)[1]
             places = [(float(x), float(y)) for x, y in re.findall(r"H([\d.]+)V([\d.]+)", steps)]
@@ -305,39 +323,32 @@ class Referee(Boards):
         self.assertEqual(xml.etree.ElementTree.fromstring(text).tag, "{http://www.w3.org/2000/svg}svg")
 
     def test_what_is_refused(self):
-        good = self.file("game.pg", plain.written_game(GAME))
-        bad = self.file("bad.pg", "0 0 0 7;")
-        refused = {
-            (str(bad),): rf"{re.escape(str(bad))}:1:7: vertex 0: successor 7 is not specified\n  0 0 0 7;\n        \^",
-            ("/nowhere.pg",): "referee: /nowhere.pg: No such file or directory",
-            ("--solver", "sh -c 'x", str(good)): "referee: --solver sh -c 'x: No closing quotation",
-            ("--solver", " ", str(good)): "referee: --solver: there is no command",
-            ("--time", "0", str(good)): r"[\s\S]*argument --time: invalid seconds value: '0'",
-            ("--time", "nan", str(good)): r"[\s\S]*argument --time: invalid seconds value: 'nan'",
-            ("--picture", "run.png", str(good)): r"[\s\S]*argument --picture: invalid picture \(.svg\) value: 'run.png'",
-        }
-        for words, line in refused.items():
+        good = str(self.file("game.pg", plain.written_game(GAME)))
+        bad = str(self.file("bad.pg", "0 0 0 7;"))
+        unknown = rf"{re.escape(bad)}:1:7: vertex 0: successor 7 is not specified\n  0 0 0 7;\n        \^"
+        for status, line, *words in (
+            (3, unknown, bad),
+            (4, "referee: /nowhere.pg: No such file or directory", "/nowhere.pg"),
+            (2, "referee: --solver sh -c 'x: No closing quotation", "--solver", "sh -c 'x", good),
+            (2, "referee: --solver: there is no command", "--solver", " ", good),
+            (2, r"[\s\S]*argument --time: invalid seconds value: '0'", "--time", "0", good),
+            (2, r"[\s\S]*argument --picture: .* \(.svg\) value: 'run.png'", "--picture", "run.png", good),
+        ):
             with self.subTest(words):
-                status, out, err = self.run_script(*words)
-                self.assertEqual((status, out), (2 if "--" in words[0] else 4 if "nowhere" in words[0] else 3, b""))
-                self.assertRegex(err.rstrip("\n"), f"^{line}$")
-        status, out, err = self.run_script(str(good), PGBOARD_LIBRARY="/nowhere.so")
+                found, out, err = self.run_script(*words)
+                self.assertEqual((found, out), (status, b""))
+                self.assertRegex(err, rf"^{line}\n$")
+        status, out, err = self.run_script(good, PGBOARD_LIBRARY="/nowhere.so")
         self.assertEqual((status, out), (4, b""))
         self.assertRegex(err, "^referee: pgboard: its library can't be loaded .*\n$")
         # (a solution comes before a picture that can't be written)
-        status, out, err = self.run_script("--picture", "no/run.svg", str(good))
-        self.assertEqual((status, err.splitlines()[-1]), (4, "referee: no/run.svg: No such file or directory"))
-        self.assertEqual(out, self.run_script(str(good))[1])
-        status, out, err = self.run_script("--solver", "/nowhere {game}", str(good))
-        said = "referee: solver 1 (/nowhere {game}): /nowhere: No such file or directory\nreferee: the board itself settled 3 of 3\n"
-        self.assertEqual((status, err), (0, said))
-
-    def test_help_fits_and_names_commands_that_need_no_shell(self):
-        # (it needs no library)
-        status, out, err = self.run_script("--help", PGBOARD_LIBRARY="/nowhere.so")
-        self.assertEqual((status, err, [it for it in out.decode().splitlines() if len(it) > 80]), (0, "", []))
-        commands = re.findall(r"--solver '([^']*)'", out.decode())
-        self.assertEqual((len(commands), [it for it in commands if set("<>|&;$") & set(it)]), (3, []))
+        status, out, err = self.run_script("--picture", "no/run.svg", good)
+        said = "referee: no/run.svg: No such file or directory"
+        self.assertEqual((status, err.splitlines()[-1]), (4, said))
+        self.solves(GAME, out)
+        status, _, err = self.run_script("--solver", "/nowhere {game}", good)
+        said = "referee: solver 1 (/nowhere {game}): /nowhere: No such file or directory\n"
+        self.assertEqual((status, err), (0, f"{said}referee: the board itself settled 3 of 3\n"))
 
 
 def of_degree_two(chance, size):
@@ -347,12 +358,24 @@ def of_degree_two(chance, size):
 def layers(chance, size):
     """Edges mostly lead down or stay near, so that many small parts are won one after another."""
     width, priorities = chance.choice([3, 5, 8]), chance.choice([3, size])
-    near = lambda v: chance.randint(max(0, v - chance.choice([1, width, 3 * width])), min(size - 1, v + chance.choice([0, 1, width])))
-    return {v: (chance.randrange(priorities), chance.randrange(2), {near(v) for _ in range(chance.choice([1, 2, 3]))}) for v in range(size)}
+    near = lambda v: chance.randint(
+        max(0, v - chance.choice([1, width, 3 * width])), min(size - 1, v + chance.choice([0, 1, width]))
+    )
+    return {
+        v: (
+            chance.randrange(priorities),
+            chance.randrange(2),
+            {near(v) for _ in range(chance.choice([1, 2, 3]))},
+        )
+        for v in range(size)
+    }
 
 
 def ring(chance, size):
-    return {v: (v, chance.randrange(2), {(v + 1) % size, (v + 2 + chance.randrange(63)) % size}) for v in range(size)}
+    return {
+        v: (v, chance.randrange(2), {(v + 1) % size, (v + 2 + chance.randrange(63)) % size})
+        for v in range(size)
+    }
 
 
 @common.needs("g++")
@@ -361,7 +384,12 @@ class Hard(Boards):
     def setUpClass(cls):
         super().setUpClass()
         cls.programs = {}
-        for compiler, flags in (("g++", ["-O2"]), ("g++", ["-O1", *embed.SANITIZERS]), ("g++", ["-O1", "-g", "-fsanitize=thread"]), ("clang++", ["-O2"])):
+        for compiler, flags in (
+            ("g++", ["-O2"]),
+            ("g++", ["-O1", *embed.SANITIZERS]),
+            ("g++", ["-O1", "-g", "-fsanitize=thread"]),
+            ("clang++", ["-O2"]),
+        ):
             if compiler in common.installed("g++", "clang++"):
                 cls.programs[" ".join([compiler, *flags])] = cls.built(compiler, flags)
         cls.program = cls.programs["g++ -O2"]
@@ -374,16 +402,31 @@ class Hard(Boards):
     @classmethod
     def built(cls, compiler, flags, *parts):
         program = cls.folder / f"hard{len([*cls.folder.glob('hard*')])}"
-        words = [compiler, "-std=c++17", *embed.WARNINGS, *flags, BOARD / "hard.cpp", *parts, *embed.ARCHIVES, "-lpthread", "-o", program]
+        words = [
+            compiler,
+            "-std=c++17",
+            *embed.WARNINGS,
+            *flags,
+            BOARD / "hard.cpp",
+            *parts,
+            *embed.ARCHIVES,
+            "-lpthread",
+            "-o",
+            program,
+        ]
         status, _, err = embed.run(words)
         assert (status, err) == (0, ""), err
         return program
 
     def ran(self, program, game, *words, **env):
-        """The solution of a game, and how many posts there were, how many were refused, and what they settled."""
+        """The solution of a game, and how many posts there were, how many were refused, what they settled."""
         path = self.file("game.pg", plain.written_game(game))
-        status, out, err = common.run([program, "--stats", *words, path], timeout=300, env={**os.environ, **env})
-        said = re.fullmatch(r"hard: tangles \d+, posts (\d+), refused (\d+), settled by posts (\d+) of (\d+)\n", err.decode())
+        status, out, err = common.run(
+            [program, "--stats", *words, path], timeout=300, env={**os.environ, **env}
+        )
+        said = re.fullmatch(
+            r"hard: tangles \d+, posts (\d+), refused (\d+), settled by posts (\d+) of (\d+)\n", err.decode()
+        )
         self.assertTrue(status == 0 and said, (status, err))
         posts, refused, settled, size = map(int, said.groups())
         self.assertEqual(size, len(game))
@@ -392,47 +435,42 @@ class Hard(Boards):
     def winners(self, out):
         return [line.split()[1][0] for line in out.decode().splitlines()[1:]]
 
-    def program_winners(self):
-        """Those of one worker: of several, one may begin the recursion before the others have posted, which can take long."""
-        return self.winners(common.program("solve", "--workers", "1", self.folder / "game.pg")[1])
-
     def test_random_games(self):
         for name, program in self.programs.items():
             for seed in range(150 if name == "g++ -O2" else 40):
                 with self.subTest(name, seed=seed):
                     chance = random.Random(seed)
-                    game = chance.choice([random_games.random_game, layers])(chance, chance.choice([8, 8, 20, 60, 200]))
-                    out, _, refused, _ = self.ran(program, game, "--threads", str(chance.choice([1, 2, 4, 64])))
+                    game = chance.choice([random_games.random_game, layers])(
+                        chance, chance.choice([8, 8, 20, 60, 200])
+                    )
+                    out, _, refused, _ = self.ran(
+                        program, game, "--threads", str(chance.choice([1, 2, 4, 64]))
+                    )
                     self.solves(game, out)
                     self.assertEqual(refused, 0)
 
-    def test_winners_are_those_of_the_program(self):
-        for name, program in self.programs.items():
-            for seed, kind in enumerate((of_degree_two, layers, ring) * 2):
-                with self.subTest(name, seed=seed):
-                    out, _, refused, _ = self.ran(program, kind(random.Random(seed), 3_000))
-                    self.assertEqual((refused, self.winners(out)), (0, self.program_winners()))
-
-    def test_games_that_take_the_recursion_long_are_settled_by_posts(self):
-        for game in (plain.ladder(40), plain.ladder(2_000), of_degree_two(random.Random(1), 30_000)):
-            out, _, refused, settled = self.ran(self.liar, game, LIE="alone")
-            self.assertEqual((refused, settled), (0, len(game)))
-            path = self.file("game.sol", out)
-            self.assertEqual(common.program("verify", self.folder / "game.pg", path)[1], b"ok\n")
-
     def test_searches_alone_settle_all(self):
-        for seed in range(150):
+        """Also games that take the recursion long."""
+        games = [plain.ladder(40), plain.ladder(2_000), of_degree_two(random.Random(1), 30_000)]
+        for seed in range(80):
             chance = random.Random(seed)
             kind = chance.choice([random_games.random_game, layers, of_degree_two, ring])
-            game = kind(chance, chance.choice([8, 20, 60, 200, 2_000] if kind is not ring else [100, 2_000]))
-            with self.subTest(seed=seed):
+            games.append(
+                kind(chance, chance.choice([8, 20, 60, 200, 2_000] if kind is not ring else [100, 2_000]))
+            )
+        for at, game in enumerate(games):
+            with self.subTest(at):
                 out, _, refused, settled = self.ran(self.liar, game, LIE="alone")
-                self.assertEqual((refused, settled, self.winners(out)), (0, len(game), self.program_winners()))
+                self.assertEqual((refused, settled), (0, len(game)))
+                path = self.file("game.sol", out)
+                self.assertEqual(common.program("verify", self.folder / "game.pg", path)[1], b"ok\n")
 
     def test_a_liar_beside_changes_no_winner(self):
         for seed in range(60):
             chance = random.Random(seed)
-            game = chance.choice([random_games.random_game, layers])(chance, chance.choice([8, 20, 200, 2_000]))
+            game = chance.choice([random_games.random_game, layers])(
+                chance, chance.choice([8, 20, 200, 2_000])
+            )
             out, _, refused, _ = self.ran(self.liar, game, LIE="beside")
             self.assertEqual((refused, self.winners(out)), (0, self.winners(self.ran(self.program, game)[0])))
 
@@ -448,10 +486,15 @@ class Hard(Boards):
         path = self.file("game.pg", plain.written_game(plain.ladder(60)))
         env = {**os.environ, "LIE": "instead"}
         begun = time.monotonic()
-        self.assertEqual(common.run([self.liar, "--timeout", "1.5", path], env=env), (124, b"", b"hard: the time is over\n"))
+        self.assertEqual(
+            common.run([self.liar, "--timeout", "1.5", path], env=env),
+            (124, b"", b"hard: the time is over\n"),
+        )
         self.assertTrue(1.5 < time.monotonic() - begun < 30)
         for number in (signal.SIGINT, signal.SIGTERM):
-            with subprocess.Popen([self.liar, path], stdout=subprocess.PIPE, stderr=subprocess.PIPE, env=env) as ran:
+            with subprocess.Popen(
+                [self.liar, path], stdout=subprocess.PIPE, stderr=subprocess.PIPE, env=env
+            ) as ran:
                 time.sleep(0.5)
                 ran.send_signal(number)
                 self.assertEqual((*ran.communicate(timeout=60), ran.returncode), (b"", b"", -number))
@@ -460,7 +503,9 @@ class Hard(Boards):
         path = self.file("game.pg", plain.written_game(ring(random.Random(3), 20_000)))
         statuses = set()
         for limit in (*range(10_000, 60_000, 3_000), *range(60_000, 700_000, 60_000)):
-            status, out, err = common.run(["bash", "-c", 'ulimit -v "$0"; exec "$@"', str(limit), self.program, path])
+            status, out, err = common.run(
+                ["bash", "-c", 'ulimit -v "$0"; exec "$@"', str(limit), self.program, path]
+            )
             statuses.add(status)
             if status == 0:
                 verdict = common.program("verify", path, self.file("game.sol", out))[1]
@@ -470,32 +515,58 @@ class Hard(Boards):
         self.assertGreaterEqual(statuses, {0, 5})
 
     def test_faults_are_those_of_the_program(self):
-        many = "".join(f"{v} 0 0 0;" for v in range(1_048_577))
-        dense = "".join(f"{v} 0 0 {','.join(map(str, range(4096)))};" for v in range(4_097))
-        texts = ["0 0 0 ?;", "0 0 0", "2147483648 0 0 0;", "0 0 2 0;", "0 0 0 0; 0 1 1 0;", "0 0 0 7;", many, dense, " " * 268_435_457]
+        texts = [
+            "0 0 0 ?;",
+            "0 0 0",
+            "2147483648 0 0 0;",
+            "0 0 2 0;",
+            "0 0 0 0; 0 1 1 0;",
+            "0 0 0 7;",
+            " " * 268_435_457,
+        ]
         runs = [([self.file("bad.pg", text)], b"") for text in texts]
-        runs += [([], texts[0].encode()), ([], b"parity 9; 9 0 0 3,9,3; 3 1 1 9 \"a;b\";"), (["/nowhere"], b""), ([self.folder], b"")]
+        runs += [
+            ([], texts[0].encode()),
+            ([], b"parity 9; 9 0 0 3,9,3; 3 1 1 9 \"a;b\";"),
+            (["/nowhere"], b""),
+            ([self.folder], b""),
+        ]
         for words, given in runs:
             with self.subTest(words, given=given):
                 status, out, err = common.program("solve", *words, given=given)
-                self.assertEqual(common.run([self.program, *words], given), (status, out, err.replace(b"pgboard:", b"hard:")))
-        full = common.run(["sh", "-c", 'exec "$0" "$1" >/dev/full', self.program, common.ROOT / "examples" / "requests.pg"])
+                self.assertEqual(
+                    common.run([self.program, *words], given),
+                    (status, out, err.replace(b"pgboard:", b"hard:")),
+                )
+        full = common.run(
+            ["sh", "-c", 'exec "$0" "$1" >/dev/full', self.program, common.ROOT / "examples" / "requests.pg"]
+        )
         self.assertEqual(full, (4, b"", b"hard: write fault\n"))
 
     def test_words_that_are_refused(self):
-        for words in (["a", "b"], ["--other"], ["--threads"], ["--threads", "0"], ["--threads", "65"], ["--threads", "x"], ["--timeout", "0"], ["--timeout", "nan"]):
+        for words in (
+            "a b", "--other", "--threads", "--threads 0", "--threads 65", "--threads x", "--timeout nan"
+        ):
             with self.subTest(words):
-                status, out, err = embed.run([self.program, *words])
-                self.assertEqual((status, out, err.startswith("hard: usage: hard [--threads N]")), (2, "", True), err)
+                status, out, err = embed.run([self.program, *words.split()])
+                said = err.startswith("hard: usage: hard [--threads N]")
+                self.assertEqual((status, out, said), (2, "", True), err)
 
     @unittest.skipIf(embed.OTHER, "another library is tested")
     def test_the_commands_of_the_page(self):
-        commands = re.findall(r"(?m)^\$ (.*)$", common.text_of("examples", "README.md").split("`board/hard.cpp`")[1].split("\n## ")[0])
+        commands = re.findall(
+            r"(?m)^\$ (.*)$",
+            common.text_of("examples", "README.md").split("`board/hard.cpp`")[1].split("\n## ")[0],
+        )
         for name in ("crates", "include", "examples"):
             (self.folder / name).symlink_to((common.PROVED if name == "crates" else common.ROOT) / name)
-        status, out, err = common.run(["bash", "-e", "-c", "\n".join(commands)], timeout=3000, cwd=self.folder)
+        status, out, err = common.run(
+            ["bash", "-e", "-c", "\n".join(commands)], timeout=3000, cwd=self.folder
+        )
         self.assertEqual((status, len(commands)), (0, 3), out + err)
-        self.solves(plain.game_of(common.text_of("examples", "requests.pg").encode()), out[out.index(b"paritysol") :])
+        self.solves(
+            plain.game_of(common.text_of("examples", "requests.pg").encode()), out[out.index(b"paritysol") :]
+        )
 
 
 @common.needs("rustc", "c++")
@@ -517,12 +588,16 @@ class Library(Boards):
         page = common.text_of("docs/BENCHMARKS.md")
         commands = re.findall(r"(?m)^bench/library (.+)$", page)
         heads = re.findall(r"(?m)^(\| game \|.*)$", page)
-        self.assertEqual(([it.split()[0] for it in commands], len(heads)), (list(self.bench.HEADS), len(self.bench.HEADS)))
+        self.assertEqual(
+            ([it.split()[0] for it in commands], len(heads)), (list(self.bench.HEADS), len(self.bench.HEADS))
+        )
         for words, head in zip(commands, heads):
             with self.subTest(words):
                 status, shown = self.table(*words.split())
                 self.assertEqual((status, shown[0]), (0, head), shown)
-                self.assertRegex(shown[2], rf"^\| own_loops( \| -?[0-9.]+( \(-?[0-9.]+\))?){{{head.count('|') - 2}}} \|$")
+                self.assertRegex(
+                    shown[2], rf"^\| own_loops( \| -?[0-9.]+( \(-?[0-9.]+\))?){{{head.count('|') - 2}}} \|$"
+                )
 
     def test_the_cells_of_hard(self):
         # the second run of `solve` takes over 20 s, and the least time counts
@@ -547,7 +622,7 @@ class Library(Boards):
         self.assertEqual(row, ["45.0", "49.5 (1.10)", "54.0 (1.20)", "9.0 (0.20)"])
 
     def row(self, table, took, sizes, **ran):
-        """The cells of figures that are given: the times and the bytes of commands, and of each mode its four times."""
+        """The cells of given figures: times and bytes of commands, and of each mode its four times."""
         bench = self.bench.Bench.__new__(self.bench.Bench)
         bench.program, bench.runs, bench.wrong, last = "program", 3, 0, []
 
@@ -555,7 +630,8 @@ class Library(Boards):
             last.append(words[0])
             return -1, took[words[0]], ""
 
-        bench.whole, bench.size, bench.in_library = whole, lambda: sizes[last[-1]], lambda game, mode: ran[mode]
+        bench.whole, bench.size = whole, lambda: sizes[last[-1]]
+        bench.in_library = lambda game, mode: ran[mode]
         return bench.row(table, "game")
 
     def test_each_mode_solves_random_games(self):

@@ -41,38 +41,24 @@ def wrong_lines(text):
 
 class Memory(unittest.TestCase):
     def test_each_source(self):
-        sources = [it for it in sorted(common.ROOT.glob("crates/*/src/**/*.rt")) if "_test" not in str(it.relative_to(common.ROOT))]
+        paths = sorted(common.ROOT.glob("crates/*/src/**/*.rt"))
+        sources = [it for it in paths if "_test" not in str(it.relative_to(common.ROOT))]
         self.assertGreater(len(sources), 60)
         for path in sources:
             with self.subTest(path.name):
-                self.assertEqual(list(wrong_lines(path.read_text(encoding="utf-8"))), [])
+                self.assertEqual([*wrong_lines(path.read_text(encoding="utf-8"))], [])
 
-    def test_lines_that_are_refused_and_lines_that_are_taken(self):
-        for line in [
-            "    return Err(AllocError);",
-            "    Err(Fault::Memory)",
-            "    found.map_err(|_| Memory {})",
-            "    Err(Refusal::Stale) => Err(AllocError),",
-            "    Refusal::Stale | Refusal::Memory => Fault::Memory,",
-        ]:
-            self.assertTrue(says_wrongly(line), line)
-        for line in [
-            "    Memory,",
-            "use std::AllocError;",
-            "    Err(AllocError) => row.memory = true,",
-            "    Err(Refusal::Memory) => Err(AllocError),",
-            "    Err(Fault::Memory) | Err(Other::Memory) => Err(Refusal::Memory),",
-        ]:
-            self.assertFalse(says_wrongly(line), line)
-        after = "impl From<AllocError> for Fault {\n    Fault::Memory\n}\n\nfn f() -> Fault {\n    Fault::Memory\n}"
-        self.assertEqual(list(wrong_lines(after)), ["    Fault::Memory"])
+        # (and a line that makes one is found)
+        for line in ("    Err(Fault::Memory)", "    Err(Stale) => Err(AllocError),", "    Stale | Memory => Memory,"):
+            self.assertEqual([*wrong_lines(f"fn f() -> Fault {{\n{line}\n}}")], [line])
 
 
 def leave_one_test(folder, test):
     """Removes all tests of a crate but one, so that no other has to run."""
     for path in folder.glob("src/**/*.rt"):
         text = path.read_text(encoding="utf-8")
-        path.write_text(re.sub(rf"(?ms)^(?:///[^\n]*\n)*#\[test\]\nfn (?!{test}\().*?^}}\n", "", text), encoding="utf-8")
+        other = rf"(?ms)^(?:///[^\n]*\n)*#\[test\]\nfn (?!{test}\().*?^}}\n"
+        path.write_text(re.sub(other, "", text), encoding="utf-8")
 
 
 @common.needs("rt")
@@ -95,7 +81,9 @@ class WrongBodies(unittest.TestCase):
         (folder / file).write_text(text, encoding="utf-8")
         crate, test = test.split()
         leave_one_test(folder / "crates" / crate, test)
-        _, out, err = common.run(["rt", "try", "--test"], timeout=900, cwd=folder / "crates" / crate)
+        # (without proofs a test takes long: a minute, on a slow machine, is not enough for each)
+        words = ["rt", "try", "--test", "--seconds", "600"]
+        _, out, err = common.run(words, timeout=1800, cwd=folder / "crates" / crate)
         said = (out + err).decode(errors="replace")
         self.assertEqual(re.findall(r"(?m)^test \S*::(\w+) \.\.\. .*?(\w+)$", said), [(test, "FAILED")], said)
         # (a test that does not end has not failed as it should)

@@ -1,8 +1,9 @@
-"""Reads circuits in the AIGER format (version 1.0), ASCII and binary, and follows them; writes tables as circuits of another kind.
+"""Reads circuits in the AIGER format (version 1.0), ASCII and binary, and follows them; writes tables as
+circuits of another kind.
 
-Nothing of it is taken from examples/lib/aiger.py, which writes circuits: tests compare the two. The form is that of Biere's
-description, "The AIGER And-Inverter Graph (AIG) Format" of 2007: literals, the order of sections, the order of gates and their
-differences in the binary form, and the symbols.
+Nothing of it is taken from examples/lib/aiger.py, which writes circuits: tests compare the two. The form is
+that of Biere's description, "The AIGER And-Inverter Graph (AIG) Format" of 2007: literals, the order of
+sections, the order of gates and their differences in the binary form, and the symbols.
 """
 
 
@@ -41,11 +42,15 @@ class Circuit:
     def numbers(self, count):
         line, _, self.rest = self.rest.partition(b"\n")
         found = line.decode("ascii").split(" ")
-        demand(len(found) == count and all(it.isdigit() and (it == "0" or it[0] != "0") for it in found), line)
+        demand(
+            len(found) == count and all(it.isdigit() and (it == "0" or it[0] != "0") for it in found), line
+        )
         return list(map(int, found))
 
     def difference(self):
-        """A number in bytes of seven bits, the lowest first, of which all but the last have their eighth bit."""
+        """A number in bytes of seven bits, the lowest first, of which all but the last have their eighth
+        bit.
+        """
         value, shift = 0, 0
         while True:
             byte, self.rest = self.rest[0], self.rest[1:]
@@ -60,8 +65,15 @@ class Circuit:
 
     def judge(self, count):
         defined = [*self.inputs, *(it for it, _ in self.latches), *self.gates]
-        demand(len(self.gates) == count and sorted(defined) == [2 * it + 2 for it in range(self.most)], "variables are defined twice or never")
-        used = [*self.outputs, *(it for _, it in self.latches), *(it for sides in self.gates.values() for it in sides)]
+        demand(
+            len(self.gates) == count and sorted(defined) == [2 * it + 2 for it in range(self.most)],
+            "variables are defined twice or never",
+        )
+        used = [
+            *self.outputs,
+            *(it for _, it in self.latches),
+            *(it for sides in self.gates.values() for it in sides),
+        ]
         demand(all(0 <= it <= 2 * self.most + 1 for it in used), "a literal of no variable")
         for gate, (left, right) in self.gates.items():
             demand(gate > left >= right, "a gate is before what it takes")
@@ -72,13 +84,20 @@ class Circuit:
             key, blank, name = line.partition(" ")
             demand(blank and key[0] in "ilo" and key not in found, line)
             found[key] = name
-        kinds = [*(f"i{it}" for it in range(len(self.inputs))), *(f"l{it}" for it in range(len(self.latches)))]
+        kinds = [
+            *(f"i{it}" for it in range(len(self.inputs))),
+            *(f"l{it}" for it in range(len(self.latches))),
+        ]
         demand(list(found) == kinds + [f"o{it}" for it in range(len(self.outputs))], "its symbols")
         return found
 
     def step(self, state, read):
         """The next state and what is written where this is read."""
-        values = {0: 0, **dict(zip(self.inputs, map(int, read))), **dict(zip((it for it, _ in self.latches), state))}
+        values = {
+            0: 0,
+            **dict(zip(self.inputs, map(int, read))),
+            **dict(zip((it for it, _ in self.latches), state)),
+        }
         value = lambda literal: values[literal & ~1] ^ literal & 1
         for gate in sorted(self.gates):
             left, right = self.gates[gate]
@@ -87,16 +106,24 @@ class Circuit:
 
 
 def blif(machine):
-    """A table in KISS2 as a circuit in the BLIF format that has a latch for each of several states, and a sum of cubes for each bit."""
+    """A table in KISS2 as a circuit in the BLIF format that has a latch for each of several states, and a
+    sum of cubes for each bit.
+    """
     states = list(machine.rows) if len(machine.rows) > 1 else []
-    lines = [".model table", " ".join([".inputs", *machine.read_names]), " ".join([".outputs", *machine.write_names])]
+    lines = [
+        ".model table",
+        " ".join([".inputs", *machine.read_names]),
+        " ".join([".outputs", *machine.write_names]),
+    ]
     lines += [f".latch next_{state} at_{state} {int(state == machine.first)}" for state in states]
     sides = " ".join([*machine.read_names, *(f"at_{state}" for state in states)])
     cubes = {name: [] for name in [*(f"next_{state}" for state in states), *machine.write_names]}
     for state, rows in machine.rows.items():
         here = "".join("1" if it == state else "-" for it in states)
         for read, to, written in rows:
-            for name in [f"next_{to}"] * bool(states) + [it for it, value in zip(machine.write_names, written) if value == "1"]:
+            for name in [f"next_{to}"] * bool(states) + [
+                it for it, value in zip(machine.write_names, written) if value == "1"
+            ]:
                 cubes[name].append(f"{read}{here} 1")
     for name, found in cubes.items():
         lines += [f".names {sides if found else ''} {name}", *found]

@@ -321,18 +321,9 @@ WINNERS = ["solve", "--winners"]
 LIMITS = {
     "as_many_vertices_as_may_be": (["tidy"], lambda: own_loops(VERTICES), VERTICES - 1),
     "one_vertex_too_many": (["tidy"], lambda: own_loops(VERTICES + 1), TOO_MANY_VERTICES),
-    "too_many_vertices_come_before_one_specified_twice": (["tidy"], lambda: b"0 0 0 1;" * (VERTICES + 1), TOO_MANY_VERTICES),
     "as_many_edges_as_may_be": (["tidy"], lambda: rows_of(range(WIDTH), range(WIDTH)), WIDTH - 1),
-    "one_row_of_edges_too_many": (["tidy"], lambda: rows_of(range(WIDTH + 1), range(WIDTH)), TOO_MANY_EDGES),
     "one_edge_too_many": (["tidy"], lambda: rows_of(range(WIDTH), range(WIDTH)) + b"%d 0 0 0;\n" % WIDTH, TOO_MANY_EDGES),
     "repeated_successors_are_one_edge": (["tidy"], lambda: b"0 0 0 0" + b",0" * (EDGES + 1) + b";", (0, b"parity 0;\n0 0 0 0;\n", b"")),
-    "edges_to_unspecified_vertices_count": (["tidy"], lambda: rows_of(range(5_000), range(70_000, 73_500)), TOO_MANY_EDGES),
-    "a_vertex_specified_twice_comes_before_edges": (
-        ["tidy"],
-        lambda: rows_of([0] * (WIDTH + 1), range(WIDTH)),
-        refused("game: vertex 0: specified twice"),
-    ),
-    "each_vertex_may_have_a_priority_of_its_own": (["tidy"], lambda: own_loops(VERTICES, lambda v: v), VERTICES - 1),
     "names_of_300_bytes_and_of_a_megabyte": (
         ["tidy"],
         lambda: b"".join(b'%d 0 0 %d "%b";' % (v, v, b"n" * length) for v, length in enumerate((300, 1_000_000))),
@@ -343,11 +334,8 @@ LIMITS = {
     "a_solution_of_as_many_vertices_as_may_be": ([], lambda: own_loops(VERTICES) + b"%" + all_to_even(VERTICES, own=True), OK),
     "a_cycle_of_as_many_vertices_as_may_be": ([], lambda: long_cycle(VERTICES) + b"%" + all_to_even(VERTICES), OK),
     "a_ladder_of_a_million_vertices": ([], lambda: ladder(LEVELS) + b"%" + all_to_even(3 * LEVELS + 1), OK),
-    "a_solution_of_30_megabytes_of_blanks": ([], lambda: own_loops(1) + b"%paritysol 0;\n0 0" + b" " * 30_000_000 + b" 0;\n", OK),
     "verify_the_greatest_solution": ([], lambda: greatest_game() + b"%" + greatest_solution(), OK),
     "solve_as_many_vertices_as_may_be": (WINNERS, lambda: own_loops(VERTICES), lambda: all_to_even(VERTICES)),
-    "solve_as_many_edges_as_may_be": (WINNERS, lambda: rows_of(range(WIDTH), range(WIDTH)), lambda: all_to_even(WIDTH)),
-    "solve_a_vertex_with_70000_successors": (WINNERS, lambda: wide_vertex(70_000), lambda: all_to_even(70_000)),
     # (a search that began again at the first successor each time would take minutes)
     "solve_a_chain_of_all_successors_of_a_vertex": (WINNERS, lambda: chain(VERTICES), lambda: all_to_even(VERTICES)),
     "solve_such_a_chain_by_the_recursion": ([*WINNERS, "--bound", "0"], lambda: chain_to_a_cycle(VERTICES), lambda: all_to_even(VERTICES)),
@@ -380,117 +368,33 @@ class Limits(Answers):
 
 common.load_tests_of_table(Limits, LIMITS, Limits.judge)
 
-# --- refusals above 65,536 lines ---
-
-MANY = 70_000
-# a line after a game of so many own loops, and after its solution; what is wrong, and at which byte of the line
-OF_GAMES = [
-    (b"?", "byte %d: no token", 0),
-    (b",", "byte %d: not expected", 0),
-    (b"2147483648 0 0 0;", "byte %d: number too large", 0),
-    (b"70000 0 2 0;", "byte %d: owner is not 0 or 1", 8),
-    (b"69999 0 0 0;", "vertex 69999: specified twice", None),
-    (b"70000 0 0 70001;", "vertex 70000: successor 70001 is not specified", None),
-]
-OF_SOLUTIONS = [
-    (b"?", "byte %d: no token", 0),
-    (b",", "byte %d: not expected", 0),
-    (b"2147483648 0;", "byte %d: number too large", 0),
-    (b"70000 2;", "byte %d: winner is not 0 or 1", 6),
-    (b"70000 0;", "vertex 70000: not in the game", None),
-    (b"69999 0;", "vertex 69999: written twice", None),
-]
-# the last vertex, its line in a solution, and what `verify` says of it; and the same of what is known
-VERDICTS = [
-    (b"69999 0 0 69999;", b"69999 0;", "no choice at 69999"),
-    (b"69999 0 0 69999;", b"69999 0 0;", "bad choice at 69999"),
-    (b"69999 1 1 0;", b"69999 1 0;", "69999 leaves to 0"),
-    (b"69999 1 0 69999;", b"69999 0 69999;", "bad cycle at 69999"),
-]
-OF_KNOWN = [
-    (b"69999 0 0 69999;", b"69999 0;", "bad choice or none at 69999"),
-    (b"69999 1 0 69999;", b"69999 0 69999;", "bad cycle at 69999"),
-    (b"69999 1 1 0;", b"69999 1 0;", "69999 is lost"),
-    (b"69999 0 0 70000; 70000 0 0 70000;", b"69999 0 70000;", "69999 leaves to 70000"),
-]
-
-
-@common.needs_speed
-class ManyLines(Answers):
-    def setUp(self):
-        self.folder = common.make_folder(self)
-
-    def refused(self, commands, game, solution, wanted):
-        """Each of these commands answers so, of a game and a solution."""
-        (self.folder / "game.pg").write_bytes(game)
-        (self.folder / "game.sol").write_bytes(solution)
-        words = {"verify": ["game.pg", "game.sol"], "known": ["--known", "game.sol", "game.pg"]}
-        for name in commands.split():
-            with self.subTest(name, wanted=wanted):
-                command = [] if name == "joined" else ["solve" if name == "known" else name, *words.get(name, ["game.pg"])]
-                given = game + b"%" + solution if name == "joined" else b""
-                self.check(common.program(*command, given=given, timeout=300, cwd=self.folder), wanted)
-
-    def test_texts(self):
-        game, solution = own_loops(MANY), all_to_even(MANY, own=True)
-        for line, what, at in OF_GAMES:
-            fault = what if at is None else what % (len(game) + at)
-            self.refused("joined verify known tidy solve trace", game + line, solution, (3, b"", f"pgboard: game: {fault}\n".encode()))
-        for line, what, at in OF_SOLUTIONS:
-            fault = what if at is None else what % (len(solution) + at)
-            self.refused("joined verify known", game, solution + line, (3, b"", f"pgboard: solution: {fault}\n".encode()))
-
-    def test_verdicts_and_what_is_known(self):
-        game, solution = own_loops(MANY - 1), all_to_even(MANY - 1, own=True)
-        missing = (3, b"", b"pgboard: solution: vertex 69999: not written\n")
-        self.refused("joined verify", game + b"69999 0 0 69999;", solution, missing)
-        self.refused("known", game + b"69999 0 0 69999;", solution, (0, all_to_even(MANY, own=True), b""))
-        for last, line, what in VERDICTS:
-            self.refused("joined verify", game + last, solution + line, (1, f"not a solution: {what}\n".encode(), b""))
-        for last, line, what in OF_KNOWN:
-            self.refused("known", game + last, solution + line, (1, b"", f"pgboard: known: {what}\n".encode()))
-
-    def test_a_long_word_is_named(self):
-        word = "--" + "x" * 100_000
-        status, out, err = common.program("tidy", word)
-        self.assertEqual((status, out, word.encode() in err), (2, b"", True))
-
-
 # --- each byte ---
 
 NAMED = b'parity 12; start 1;\n12 05 1 7,12 "a name";\n7 2 0 12;\n'
 NAMED_SOLUTION = b"paritysol 12;\n7 1;\n12 1 12;\n"
 
 
-def cuts(text):
-    return (text[:length] for length in range(len(text) + 1))
-
-
 class EveryByte(unittest.TestCase):
-    def judge(self, texts):
-        """Judges games by `tidy`, and games with solutions, as pairs, by the run without a command."""
-        texts = sorted(set(texts), key=str)
-        self.assertTrue(texts)
-        runs = [(["tidy"], it, plain.tidied(it)) if isinstance(it, bytes) else ([], b"%".join(it), plain.verified(*it)) for it in texts]
-        with concurrent.futures.ThreadPoolExecutor(4) as pool:
-            answers = pool.map(lambda it: common.program(*it[0], given=it[1]), runs)
-            for (words, text, wanted), got in zip(runs, answers):
-                with self.subTest(words, text=text):
-                    self.assertEqual(got, wanted)
-
-    def test_each_byte_at_several_places(self):
+    def test_each_byte_at_several_places_of_a_game(self):
         places = ((b"", b"0 0 0 0;"), (b"0 12", b"3 0 0;"), (b'0 0 0 0 "a', b'b";'), (b"0 0 0 0;", b""))
-        self.judge(before + bytes([byte]) + after for before, after in places for byte in range(256))
-        self.judge((b"0 0 0 0;", b"0" + bytes([byte]) + b"0 0;") for byte in range(256))
+        games = {before + bytes([byte]) + after for before, after in places for byte in range(256)}
+        self.judge({game: plain.tidied(game) for game in games}, "tidy")
+
+    def test_each_byte_in_a_solution(self):
+        game, solutions = b"0 0 0 0;", (b"0%c0 0;" % byte for byte in range(256))
+        self.judge({game + b"%" + it: plain.verified(game, it) for it in solutions})
 
     def test_texts_cut_at_every_length(self):
-        self.judge([*cuts(NAMED), *((NAMED, it) for it in cuts(NAMED_SOLUTION))])
-        examples = sorted((common.ROOT / "examples").glob("*.pg"))
-        self.assertGreater(len(examples), 1)
-        for path in examples:
-            game = path.read_bytes()
-            solutions = [it.read_bytes() for it in (path.with_suffix(".sol"), path.with_suffix(".wrong")) if it.exists()]
-            self.judge([*cuts(game), *((game, part) for it in solutions for part in cuts(it))])
+        cuts = lambda text: (text[:length] for length in range(len(text) + 1))
+        self.judge({it: plain.tidied(it) for it in cuts(NAMED)}, "tidy")
+        self.judge({NAMED + b"%" + it: plain.verified(NAMED, it) for it in cuts(NAMED_SOLUTION)})
+
+    def judge(self, answers, *words):
+        with concurrent.futures.ThreadPoolExecutor(4) as pool:
+            found = pool.map(lambda it: common.program(*words, given=it), answers)
+            for (text, wanted), got in zip(answers.items(), found):
+                with self.subTest(text=text):
+                    self.assertEqual(got, wanted)
 
 
 if __name__ == "__main__":

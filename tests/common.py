@@ -1,4 +1,4 @@
-"""What the scripts of tests/ share: the repository's folder, the program under test, and a last line that ./test adds up."""
+"""What the scripts of tests/ share: the repository's folder, the program under test, and a last line for ./test."""
 
 import contextlib
 import functools
@@ -33,7 +33,8 @@ def last_built():
 
 
 # the first word of a script may be the path of another one
-PROGRAM = pathlib.Path(os.path.abspath(sys.argv.pop(1))) if sys.argv[1:] and not sys.argv[1].startswith("-") else last_built()
+IS_NAMED = bool(sys.argv[1:]) and not sys.argv[1].startswith("-")
+PROGRAM = pathlib.Path(os.path.abspath(sys.argv.pop(1))) if IS_NAMED else last_built()
 
 
 def text_of(*path):
@@ -49,7 +50,7 @@ def make_folder(case):
 
 
 def write_program(path, text):
-    """Writes a script that may be run, in a folder that is made where it is not there, and returns its path."""
+    """Writes a script that may be run, in a folder that is made where there is none, and returns its path."""
     path.parent.mkdir(parents=True, exist_ok=True)
     path.write_text(text, encoding="utf-8")
     path.chmod(0o755)
@@ -91,10 +92,11 @@ def program(*words, given=b"", **how):
 
 
 def at_terminal(words, typed=b"", **how):
-    """A run whose standard error is a terminal, and its standard input where something is typed there; and what it says there."""
+    """A run whose standard error is a terminal, as its standard input where something is typed; and what it says."""
     ours, theirs = pty.openpty()
     os.write(ours, typed)
-    ran = subprocess.run(words, stdin=theirs if typed else subprocess.DEVNULL, stdout=subprocess.PIPE, stderr=theirs, timeout=60, **how)
+    how |= {"stdin": theirs if typed else subprocess.DEVNULL, "stdout": subprocess.PIPE, "stderr": theirs}
+    ran = subprocess.run(words, timeout=60, **how)
     os.write(theirs, b"end")
     text = b""
     while not text.endswith(b"end"):
@@ -103,13 +105,14 @@ def at_terminal(words, typed=b"", **how):
 
 
 def drawn(text):
-    """What Graphviz has drawn, in whatever layout: of each vertex and edge its kind, its name, its texts, and how its shapes look."""
+    """What Graphviz has drawn, in whatever layout: the kind, name, texts and looks of each vertex and edge."""
     tag = "{http://www.w3.org/2000/svg}%s"
     for group in xml.etree.ElementTree.fromstring(text.encode()).iter(tag % "g"):
         if group.get("class") in ("node", "edge"):
             texts = ["".join(it.itertext()) for it in group.iter(tag % "text")]
             shapes = [it for it in group if it.tag not in (tag % "title", tag % "text")]
-            looks = [tuple(it.get(name, "") for name in ("fill", "stroke-width", "stroke-dasharray")) for it in shapes]
+            names = "fill", "stroke-width", "stroke-dasharray"
+            looks = [tuple(it.get(name, "") for name in names) for it in shapes]
             yield group.get("class"), group.find(tag % "title").text, texts, looks
 
 
@@ -122,12 +125,12 @@ def is_alive(pid):
 
 @functools.lru_cache(maxsize=None)
 def is_checked():
-    """Whether the program under test has run-time checks: it is some 200 times slower, takes more memory, and a signal ends it."""
+    """Whether the program under test has run-time checks: it is some 200 times slower, and a signal ends it."""
     return b"\nbuild: unproved, " in program("--version")[1]
 
 
 def needs_speed(test):
-    """Leaves out a test, or a class of tests, that a program with run-time checks has neither the time nor the memory for."""
+    """Leaves out a test, or a class of tests, that takes too much of a program with run-time checks."""
     return unittest.skipIf(is_checked(), "the program has run-time checks")(test)
 
 
@@ -146,7 +149,7 @@ def installed(*tools):
 
 
 def kit():
-    """The kit that is installed, without the letter of its release: kits of one number and one logic prove the same."""
+    """The kit that is installed, without the letter of its release: those of one logic prove the same."""
     return re.sub(r"^(rattle-kit-\d+)[a-z]* ", r"\1 ", run(["rt", "version"])[1].decode().strip())
 
 
@@ -175,15 +178,6 @@ class Result(unittest.TextTestResult):
         self.passed += not self.rows
 
 
-def write_or_test(made):
-    """With --write writes the files that a script makes, by paths and texts; else runs its tests."""
-    if "--write" in sys.argv:
-        for path, text in made():
-            (ROOT / path).write_text(text, encoding="utf-8")
-    else:
-        main()
-
-
 def main():
     """Runs the tests of the script, with flags of unittest as -k WORD; the last line is 'N passed, M failed'.
 
@@ -191,7 +185,8 @@ def main():
     """
     runner = unittest.TextTestRunner(resultclass=Result)
     result = unittest.main(testRunner=runner, exit=False).result
-    failed = len(result.failures) + len(result.errors) + len(result.unexpectedSuccesses) + IS_GATE * len(result.skipped)
+    skipped = result.skipped if IS_GATE else []
+    failed = sum(map(len, (result.failures, result.errors, result.unexpectedSuccesses, skipped)))
     failed = failed or int(not result.passed and not result.skipped)
     for test, why in result.skipped:
         print(f"skipped: {test}: {why}")

@@ -1,7 +1,8 @@
 #!/usr/bin/env python3
-"""Has rt prove and build the C library in a copy of the crates, over the libraries that `rt ci` has proved: tests/library.py FOLDER
+"""Has rt prove and build the C library in a copy of the crates: tests/library.py FOLDER
 
-The gate runs it while `rt ci` is still at work, once for embed.py, boards.py and package.py. Its last line counts it as one test.
+It does so over the libraries that `rt ci` has proved. The gate runs it while `rt ci` is still at work, once for
+embed.py, boards.py and package.py. Its last line counts it as one test.
 """
 
 import contextlib
@@ -32,15 +33,16 @@ def locked(tree):
 
 
 def is_of_this_gate(crate, library):
-    """Whether `rt ci` has built a library since ./test began, of sources that nobody has changed since. (At its end it puts back what was
-    there before.)"""
+    """Whether `rt ci` has built a library since ./test began, of sources that nobody has changed since. (At its end it
+    puts back what was there before.)"""
     sources = (path for it in [crate, *crate.below()] for path in rtlib.files_of(it.folder))
-    return library.is_dir() and library.stat().st_mtime >= BEGAN and all(os.stat(it).st_mtime < BEGAN for it in sources)
+    is_new = library.is_dir() and library.stat().st_mtime >= BEGAN
+    return is_new and all(os.stat(it).st_mtime < BEGAN for it in sources)
 
 
 def take_as_built(tree, above):
-    """Has rt take the libraries below a crate of a tree as built of their sources: those that the gate has just proved, and left without
-    a stamp. A tree that is not this one gets a copy of them."""
+    """Has rt take the libraries below a crate of a tree as built of their sources: those that the gate has just proved,
+    and left without a stamp. A tree that is not this one gets a copy of them."""
     with locked(tree) as crates:
         for crate in crates[above].below():
             library = pathlib.Path(crate.folder, "out", "rlib")

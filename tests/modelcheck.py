@@ -3,17 +3,17 @@
 
 Its answers are compared with an evaluation of formulas by iterating sets, on random models, and with known
 answers on models of protocols. The evaluation takes nothing of the script: what a regular modality goes
-along is a relation of states, of which compositions and closures are taken. The rest is evidence, games and
-pictures.
+along is a relation of states, of which compositions and closures are taken. How operators bind is shown by
+brackets. The rest is evidence, games and pictures.
 """
 
 import dataclasses
+import itertools
 import os
 import random
 import re
 import shlex
 import sys
-import time
 import unittest
 import unittest.mock
 import xml.etree.ElementTree
@@ -227,107 +227,27 @@ def drawn(seed):
     return model, formula
 
 
-# --- formulas read back ---
-
-# how a formula's operators bind, from what binds least; a prefix binds most
-BINDS = {"=>": 0, "||": 1, "&&": 2}
-PREFIX = 3
-# the same of what a modality has in its brackets; an action binds most
-REGULAR_BINDS = {"+": 0, ".": 1, "*": 2, "plus": 2, "=>": 3, "||": 4, "&&": 5, "!": 6}
-SET_OPERATORS = ["=>", "||", "&&"]
-# tokens of an action, and how the reader spells it
-SPELLED = [
-    (["a"], "a"),
-    (["a'"], "a'"),
-    (["true_"], "true_"),
-    (["0"], "0"),
-    (["c(1,  f(2, (3)))"], "c(1,f(2,(3)))"),
-    (["c (x|f(b) | a)", "|", "b"], "b|c(x|f(b)|a)"),
-    (["d(a mod  b, -1)", "|", "b", "|", "a"], "a|b|d(a mod b,-1)"),
-    (["b", "|", "a", "|", "a"], "a|a|b"),
-]
-
-
-def random_regular(chance, depth, is_set=False):
-    if depth == 0 or chance.random() < 0.2:
-        label = chance.choice(["", "a b", "% ] '[(", "true"])
-        return chance.choice([("action", *chance.choice(SPELLED)), ("label", label), ("true",), ("false",)])
-    part = lambda some: random_regular(chance, depth - 1, some)
-    operator = chance.choice(["!", *SET_OPERATORS] if is_set else [*REGULAR_BINDS, "+", "."])
-    if operator in ("!", "*", "plus"):
-        return operator, part(operator == "!")
-    return operator, part(operator in SET_OPERATORS), part(operator in SET_OPERATORS)
-
-
-def random_tree(chance, depth):
-    """A random formula as the reader gives it, without places."""
-    if depth == 0 or chance.random() < 0.1:
-        return chance.choice(
-            [("true",), ("false",), ("variable", chance.choice(["X", "Y_1", "Z'", "nu_", "andy"]))]
-        )
-    part = lambda: random_tree(chance, depth - 1)
-    operator = chance.choice([*BINDS, *BINDS, "!", "<", "[", "mu", "nu"])
-    if operator in BINDS:
-        return operator, part(), part()
-    if operator in ("mu", "nu"):
-        return operator, chance.choice(["X", "Y_1"]), part()
-    return (operator, part()) if operator == "!" else (operator, random_regular(chance, 3), part())
-
-
-def regular_tokens(tree, binds=0):
-    """The tokens of what a modality has in its brackets, with brackets only where they are needed."""
-    operator, *parts = tree
-    if operator == "action":
-        return parts[0]
-    if operator not in REGULAR_BINDS:
-        return [f'"{parts[0]}"' if parts else operator]
-    own = REGULAR_BINDS[operator]
-    if operator == "!":
-        found = ["!", *regular_tokens(parts[0], own)]
-    elif len(parts) == 1:
-        found = [*regular_tokens(parts[0], own), "*" if operator == "*" else "+"]
-    else:
-        from_right = operator in (".", "=>")
-        found = [
-            *regular_tokens(parts[0], own + from_right),
-            operator,
-            *regular_tokens(parts[1], own + (not from_right)),
-        ]
-    return ["(", *found, ")"] if own < binds else found
-
-
-def formula_tokens(tree, binds=0, is_last=True):
-    """The tokens of a formula likewise. Only where nothing follows inside its brackets does a fixed point
-    need none.
-    """
-    operator, *parts = tree
-    if operator in ("true", "false", "variable"):
-        return [*parts, operator][:1]
-    own = BINDS.get(operator, PREFIX)
-    needs = own < binds or operator in ("mu", "nu") and not is_last
-    is_last = is_last or needs
-    if operator in BINDS:
-        from_right = operator == "=>"
-        left = formula_tokens(parts[0], own + from_right, False)
-        found = [*left, operator, *formula_tokens(parts[1], own + (not from_right), is_last)]
-    elif operator in ("mu", "nu"):
-        found = [operator, parts[0], ".", *formula_tokens(parts[1])]
-    else:
-        within = [] if operator == "!" else [*regular_tokens(parts[0]), ">" if operator == "<" else "]"]
-        found = [operator, *within, *formula_tokens(parts[-1], PREFIX, is_last)]
-    return ["(", *found, ")"] if needs else found
-
-
-def spaced(chance, tokens):
-    """A text of tokens, in which words may stand for signs, and blanks and comments between tokens."""
-    words = {"&&": "and", "||": "or", "!": "not"}
-    blanks = [" ", "\n", ' % a note ) ] "\n', "  "]
-    text = ""
-    for token in tokens:
-        token = words[token] if token in words and chance.random() < 0.5 else token
-        needs = re.search(r"[\w']$", text) and re.match(r"[\w'(]", token)
-        text += (chance.choice(blanks) if needs or chance.random() < 0.3 else "") + token
-    return text
+# how operators bind, from what binds least: of formulas, and of what a modality has in its brackets
+OPERATORS = ["=>", "||", "&&"]
+REGULAR_OPERATORS = ["+", ".", *OPERATORS]
+FROM_THE_RIGHT = ("=>", ".")
+# a formula, and the same with brackets
+BRACKETS = {
+    "!X && Y": "(!X) && Y",
+    "<a> X || Y": "(<a> X) || Y",
+    "![a] X => Y": "(!([a] X)) => Y",
+    "mu X. X && Y": "mu X. (X && Y)",
+    "X && nu Y. Y || Z": "X && (nu Y. (Y || Z))",
+    "not X and Y or Z": "((!X) && Y) || Z",
+    "<a.b*> X": "<a.(b*)> X",
+    "<a || b*> X": "<(a || b)*> X",
+    "<!a && b> X": "<(!a) && b> X",
+    "<a+.b> X": "<(a+).b> X",
+    "<a+ + b> X": "<(a+) + b> X",
+    '<a+"b"> X': '<a + ("b")> X',
+    "<a+!b> X": "<a + (!b)> X",
+    "<a*+> X": "<(a*)+> X",
+}
 
 
 def without_places(tree):
@@ -358,7 +278,7 @@ class ModelCheck(scripts.Use, unittest.TestCase):
 
     def test_random_models(self):
         answers = []
-        for seed in range(1000):
+        for seed in range(500):
             with self.subTest(seed=seed):
                 model, formula = drawn(seed)
                 self.model.write_text(model.text, encoding="ascii")
@@ -376,22 +296,27 @@ class ModelCheck(scripts.Use, unittest.TestCase):
                 self.assertLessEqual({state for state, _, _ in part.transitions}, set(reached))
                 self.assertEqual(model.first in formula.holds(part, {}), answers[-1])
                 self.check(self.model, f"!{formula.text}", not answers[-1])
-        self.assertGreater(min(answers.count(True), answers.count(False)), 300)
+        self.assertGreater(min(answers.count(True), answers.count(False)), 150)
 
-    def test_random_formulas_read_back(self):
-        """What a formula is, with as few brackets as the grammar allows, is read as it was meant."""
-        parts = lambda tree: tuple(as_read(it) if isinstance(it, tuple) else it for it in tree)
-        as_read = lambda tree: ("action", tree[2]) if tree[0] == "action" else parts(tree)
-        parser = sys.modules["lib.formulas"].Parser
-        sizes = []
-        for seed in range(3000):
-            chance = random.Random(seed)
-            tree = random_tree(chance, 1 + seed % 6)
-            text = spaced(chance, formula_tokens(tree))
-            with self.subTest(seed=seed, text=text):
-                self.assertEqual(without_places(parser("formula", text).whole()), as_read(tree))
-            sizes.append(len(text))
-        self.assertGreater(max(sizes), 600)
+    def test_how_operators_bind(self):
+        read = lambda text: without_places(sys.modules["lib.formulas"].Parser("formula", text).whole())
+        for operators, form in ((OPERATORS, "{}"), (REGULAR_OPERATORS, "<{}> X")):
+            for first, second in itertools.product(operators, repeat=2):
+                goes_left = operators.index(first) > operators.index(second)
+                goes_left = goes_left or first == second and first not in FROM_THE_RIGHT
+                brackets = f"(a {first} b) {second} c" if goes_left else f"a {first} (b {second} c)"
+                text = form.format(f"a {first} b {second} c")
+                self.assertEqual(read(text), read(form.format(brackets)), text)
+        for text, brackets in BRACKETS.items():
+            self.assertEqual(read(text), read(brackets), text)
+        names = ("variable", "nu_"), ("variable", "andy'")
+        self.assertEqual(read("nu_ and andy'"), ("&&", *names))
+
+    def test_the_closure_of_a_relation_goes_on_to_the_end(self):
+        steps = {(v, v + 1) for v in range(6)}
+        self.assertEqual(closed(steps), set(itertools.combinations(range(7), 2)))
+        self.assertEqual(closed({*steps, (6, 0)}), set(itertools.product(range(7), repeat=2)))
+        self.assertEqual(after(steps, steps), {(v, v + 2) for v in range(5)})
 
     def test_a_comment_in_an_action(self):
         """A comment is no part of an action, nor of its data."""
@@ -417,6 +342,9 @@ class ModelCheck(scripts.Use, unittest.TestCase):
             "d(x mod y)",
             "d(x  mod y)",
             "d(xmody)",
+            "a'",
+            "0",
+            "c(x|y)|b(z|w)",
         ]
         for formula, taken in {
             "ab": ["ab"],
@@ -427,6 +355,10 @@ class ModelCheck(scripts.Use, unittest.TestCase):
             "a|b": [],
             "!(a || ab)": [labels[1], *labels[3:]],
             "a => ab": labels[1:],
+            "a'": ["a'"],
+            "0": ["0"],
+            "b(z|w) | c(x|y)": labels[-1:],
+            "b(z|y) | c(x|w)": [],
             "true && !false": labels,
         }.items():
             for at, label in enumerate(labels):
@@ -462,7 +394,7 @@ class ModelCheck(scripts.Use, unittest.TestCase):
             ('<a."a"> true && <"a".a> true', True, []),
         ):
             with self.subTest(formula):
-                status, out, err = self.run_script(self.model, formula)
+                status, out, err = scripts.called(self.script, [self.model, formula])
                 self.assertEqual((status, out), (int(not expected), f"{str(expected).lower()}\n"))
                 self.assertEqual(
                     err.splitlines()[1:], [f"modelcheck: the model has no label {it}" for it in unknown]
@@ -477,9 +409,8 @@ class ModelCheck(scripts.Use, unittest.TestCase):
             ("a", "<tau> true", False),
         ):
             self.model.write_text(Model(0, 1, [(0, it, 0) for it in labels]).text, encoding="ascii")
-            self.assertEqual(
-                self.run_script(self.model, formula)[2].splitlines()[1:], [warning] * is_warned + []
-            )
+            err = scripts.called(self.script, [self.model, formula])[2]
+            self.assertEqual(err.splitlines()[1:], [warning] * is_warned)
         self.model.write_text(Model(0, 1, [(0, "i", 0), (0, "tau", 0)]).text, encoding="ascii")
         self.assertEqual(self.run_script(self.model, "<tau> true")[1:], ("true\n", SIZE.format(2, 2)))
 
@@ -487,12 +418,12 @@ class ModelCheck(scripts.Use, unittest.TestCase):
         """Where a formula is refused whose text may be a file's name, the fault says how such a file has to
         be called.
         """
-        said = "; the name of a formula's file ends in .mcf, or it is - for standard input\n"
-        for formula in (self.file("all ways", "nu X. <a> X"), "always.txt", "formulas/always", "./always"):
-            status, out, err = self.run_script(self.model, formula)
-            self.assertEqual((status, out, said in err), (3, "", True), err)
-        for formula in ("always.txt ", "<a.b", "a", "mu X.<a>X.", "X && Y"):
-            self.assertNotIn(said, self.run_script(self.model, formula)[2])
+        said = "; the name of a formula's file ends in .mcf, or it is - for standard input"
+        names = self.file("all ways", "nu X. <a> X"), "always.txt", "formulas/always", "./always"
+        for formula in (*names, "always.txt ", "<a.b", "a", "mu X.<a>X.", "X && Y"):
+            with self.assertRaises(self.script.Refused) as caught:
+                self.call(self.model, formula)
+            self.assertEqual(said in str(caught.exception), formula in names, formula)
 
     def test_known_models(self):
         rows = scripts.rows_of("known_models.txt")
@@ -507,27 +438,20 @@ class ModelCheck(scripts.Use, unittest.TestCase):
     def test_a_game_of_100_000_vertices(self):
         count, chance = 20_000, random.Random(1)
         step = lambda: chance.randint(1, 9) ** chance.randint(1, 5)
-        model = Model(
-            0,
-            count,
-            [
-                (state, chance.choice("abc"), (state + step()) % count)
-                for state in range(count)
-                for _ in range(2)
-            ],
-        )
+        moves = [
+            (state, chance.choice("abc"), (state + step()) % count) for state in range(count) for _ in "12"
+        ]
+        model = Model(0, count, moves)
         self.model.write_text(model.text, encoding="ascii")
-        x, y = Formula("X", lambda _, sets: sets["X"]), Formula("Y", lambda _, sets: sets["Y"])
-        move = lambda is_some, text, inner: modality(
-            is_some, labelled(text, NOT, set("abc") if text == "true" else {text}), inner
+        x, y = (Formula(it, lambda _, sets, it=it: sets[it]) for it in "XY")
+        move = lambda is_some, labels, inner: modality(
+            is_some, labelled(" || ".join(labels), NOT, set(labels)), inner
         )
         left = joined(move(True, "a", x), "||", move(False, "b", y))
-        body = joined(joined(left, "&&", move(True, "true", y)), "||", move(False, "c", x))
-        for outer, inner in (("nu", "mu"), ("mu", "nu")):
-            with self.subTest(outer):
-                formula = fixed_point(outer, "X", fixed_point(inner, "Y", body))
-                self.check(self.model, formula.text, 0 in formula.holds(model, {}), "--game", self.game)
-                self.assertGreaterEqual(self.game.read_text(encoding="utf-8").count("\n"), 100_000)
+        body = joined(joined(left, "&&", move(True, "abc", y)), "||", move(False, "c", x))
+        formula = fixed_point("nu", "X", fixed_point("mu", "Y", body))
+        self.check(self.model, formula.text, 0 in formula.holds(model, {}), "--game", self.game)
+        self.assertGreaterEqual(self.game.read_text(encoding="utf-8").count("\n"), 100_000)
 
     def test_priorities_by_alternation(self):
         for formula, greatest in {
@@ -571,26 +495,23 @@ class ModelCheck(scripts.Use, unittest.TestCase):
 
     def test_forms_of_a_model(self):
         for text in (
-            b'des (1,2,2)\r\n\r\n( 1 , go , 0 )\r\n(0,"b c",0)\r\n',
-            b"  des(1,2,2)\n(1,go,0)\n(0,b c,0)",
-            b'des (1, 2, 2)\n(1, "go", 0)\n(0, "b c", 0)\n',
+            b'des (1,2,2)\r\n\r\n( 1 , g , 0 )\r\n(0,"b c",0)\r\n',
+            b"  des(1,2,2)\n(1,g,0)\n(0,b c,0)",
+            b'des (1, 2, 2)\n(1, "g", 0)\n(0, "b c", 0)\n',
         ):
             with self.subTest(text):
                 self.model.write_bytes(text)
-                self.check(self.model, '<go> nu X. <"b c"> X', True)
+                self.check(self.model, '<g> nu X. <"b c"> X', True)
 
     def test_a_formula_of_a_file(self):
         formula = self.file("always.mcf", "% always\nnu X.\n <a> X\n")
         self.assertEqual(self.run_script(self.model, formula), (0, "true\n", SIZE.format(4, 4)))
         said = SIZE.format(1, 1) + "modelcheck: the model has no label b\n"
         self.assertEqual(self.run_script(self.model, "-", given=b"<b> true % none\n"), (1, "false\n", said))
-        self.check_standard_input(str(self.model), str(self.model), "<a.a> true")
         formula = self.file("always.mcf", "nu X.\n (<a> X\n")
         status, out, err = self.run_script(self.model, formula)
         self.assertEqual((status, out), (3, ""))
-        self.assertTrue(
-            err.startswith(f"{formula}:2:8: expected ), found the end of the text"), err
-        )
+        self.assertTrue(err.startswith(f"{formula}:2:8: expected ), found the end of the text"), err)
 
     def test_bytes_of_other_encodings(self):
         self.model.write_bytes(b'des (0, 1, 1)\n(0, "\xe9\xff", 0)\n')
@@ -608,17 +529,6 @@ class ModelCheck(scripts.Use, unittest.TestCase):
         self.check_damaged(
             lambda it: self.call(self.file("model.aut", it), "mu X. (<true> true && [a] X)"), mutex
         )
-
-    def test_a_solution_that_is_refused(self):
-        """What `solve` writes is believed only where `verify` takes it."""
-        liar = self.file(
-            "liar",
-            f'#!/bin/sh\n[ "$1" != verify ] || {{ echo "not a solution"; exit 1; }}\nexec {common.PROGRAM} "$@"\n',
-        )
-        os.chmod(liar, 0o755)
-        said = "modelcheck: what pgboard solved was refused: not a solution\n"
-        self.assertEqual(self.run_script(self.model, "true", PGBOARD=liar), (4, "", SIZE.format(1, 1) + said))
-        self.check_no_verdict(self.model, "true")
 
     def test_progress_on_a_terminal(self):
         """The line of progress is replaced, and the size and the answer stay; a pipe gets no progress."""
@@ -650,12 +560,6 @@ class ModelCheck(scripts.Use, unittest.TestCase):
             self.check_growth(refuse, size)
 
     def test_what_is_too_large(self):
-        for formula in ("(" * 5000 + "true" + ")" * 5000, f"[true{'*' * 100_000}] false"):
-            begun = time.monotonic()
-            status, out, err = self.run_script(self.model, formula)
-            self.assertEqual((status, out), (3, ""))
-            self.assertRegex(err, r"\Aformula:1:[0-9]{1,6}: nested too deeply\n  .{1,100}\n *\^\n\Z")
-            self.assertLess(time.monotonic() - begun, 10)
         # (a chain is no nesting: a test has a tenth of the script's frames)
         for operator in ("&&", "||"):
             self.assertEqual(
@@ -664,7 +568,8 @@ class ModelCheck(scripts.Use, unittest.TestCase):
         self.model.write_text(
             Model(0, 9, [(state, "a", state + 1) for state in range(8)]).text, encoding="ascii"
         )
-        self.check(self.model, "nu X. [a] X", True)
+        with unittest.mock.patch.object(self.script, "MOST_VERTICES", 18):
+            self.check(self.model, "nu X. [a] X", True)
         with unittest.mock.patch.object(self.script, "MOST_VERTICES", 17):
             with self.assertRaisesRegex(self.script.Refused, "the game has more than 17 vertices"):
                 self.call(self.model, "nu X. [a] X")
@@ -696,11 +601,10 @@ class ModelCheck(scripts.Use, unittest.TestCase):
         self.check(*words, False, "--evidence", self.evidence)
         cycle = [(0, "ask_1", 1), (1, "ask_2", 3), (3, "enter_2", 7), (7, "leave_2", 1)]
         self.assertEqual(self.evidence.read_text(encoding="ascii"), Model(0, 8, cycle).text)
-        self.check_picture(words, "first -> 0", '0 -> 1 [label="ask_1"]', '7 -> 1 [label="leave_2"]')
         for end in ("dot", "svg"):
-            scripts.check_kept(
-                self, f"waiting.{end}", (self.folder / f"picture.{end}").read_text(encoding="utf-8")
-            )
+            picture = self.folder / f"waiting.{end}"
+            self.call(*words, "--picture", picture)
+            scripts.check_kept(self, picture.name, picture.read_text(encoding="utf-8"))
 
 
 if __name__ == "__main__":

@@ -1,8 +1,8 @@
 #!/usr/bin/env python3
 """Compares the pages with the program and the sources: tests/pages.py [PROGRAM] [-k WORD]
 
-Commands on the pages print what the pages show, links lead somewhere, each fault line is in docs/FAULTS.md, the synopses and the
-man page say what the program's help says, code on the pages is in a test, and no page has a word that another one says better.
+Commands on the pages print what the pages show, links lead somewhere, each fault line is in docs/FAULTS.md,
+synopsis and man page say what the program's help says, and code on the pages is in a test.
 """
 
 import os
@@ -15,8 +15,10 @@ import cli
 import common
 
 BLOCK = re.compile(r"(?ms)^```(\w*)\n(.*?)^```$")
+# lines of commands, and what they print
+PAIR = re.compile(r"(?m)((?:^(?!# ).*\n)+)((?:^# .*\n)+)")
 # the page that has whole C programs
-C_PAGE = "docs/INTEROP.md"
+C_PAGE = "docs/C.md"
 LINK = re.compile(r"\[[^\]]*\]\(([^)\s]+)\)")
 
 
@@ -37,16 +39,18 @@ def prose(page):
 def examples(text):
     """The commands that a page shows with what they print, each with the heading above.
 
-    In a block `sh` these are lines of commands before lines that begin with `# `, or the whole block before a block `text`.
+    In a block `sh` these are lines of commands before lines that begin with `# `, or the whole block before a
+    block `text`.
     """
     blocks = list(BLOCK.finditer(text))
     for block, after in zip(blocks, [*blocks[1:], None]):
         head = (["", *re.findall(r"(?m)^#+ +(.*)$", BLOCK.sub("", text[: block.start()]))])[-1]
-        pairs = re.findall(r"((?:^(?!# ).*\n)+)((?:^# .*\n)+)", block[2], re.M)
+        pairs = PAIR.findall(block[2])
         if block[1] == "sh" and pairs:
             yield from ((head, commands, re.sub(r"(?m)^# ", "", printed)) for commands, printed in pairs)
-        elif block[1] == "sh" and after and after[1] == "text" and not re.search(r"(?m)^#", text[block.end() : after.start()]):
-            yield head, block[2], after[2]
+        elif block[1] == "sh" and after and after[1] == "text":
+            if not re.search(r"(?m)^#", text[block.end() : after.start()]):
+                yield head, block[2], after[2]
 
 
 def c_programs(text):
@@ -62,7 +66,7 @@ def anchors(page):
 
 
 def ran(case, commands):
-    """Runs commands by bash in a folder like the top: the output and error, as in a terminal, and the last status.
+    """Runs commands by bash in a folder like the top: output and error in one text, and the last status.
 
     They need nothing of the commands before them on the page, not even a variable, and leave no file behind.
     """
@@ -70,7 +74,8 @@ def ran(case, commands):
     (folder / "pgboard").symlink_to(common.PROGRAM)
     for name in ("examples", "bindings/python/pgboard"):
         shutil.copytree(common.ROOT / name, folder / name, ignore=shutil.ignore_patterns("__pycache__"))
-    env = {**os.environ, "PGBOARD": shlex.quote(str(common.PROGRAM)), "TMPDIR": str(others), "PYTHONDONTWRITEBYTECODE": "1"}
+    env = {**os.environ, "PGBOARD": shlex.quote(str(common.PROGRAM)), "TMPDIR": str(others)}
+    env["PYTHONDONTWRITEBYTECODE"] = "1"
     before = sorted(folder.rglob("*"))
     status, out, _ = common.run(["bash", "-uc", f"exec 2>&1\n{commands}"], timeout=300, cwd=folder, env=env)
     case.assertEqual(sorted(folder.rglob("*")), before, commands)
@@ -109,7 +114,8 @@ FAULTS = [
     *(f"solution: vertex V: {it}" for it in ("not in the game", "written twice", "not written")),
     *(f"known: {it}" for it in ("bad choice or none at V", "bad cycle at V", "V is lost", "V leaves to W")),
     *("text too long", "read fault", "write fault", "no memory"),
-    *(f"not a solution: {it}" for it in ("no choice at V", "bad choice at V", "V leaves to W", "bad cycle at V")),
+    *(f"not a solution: {it} at V" for it in ("no choice", "bad choice", "bad cycle")),
+    "not a solution: V leaves to W",
 ]
 # those that no text gives
 WITHOUT_EXAMPLE = ["game: no vertex", "game: vertex V: no successor"]
@@ -162,8 +168,7 @@ class Faults(unittest.TestCase):
 
 # --- help ---
 
-PAGES = ["docs/CLI.md", "docs/man1/pgboard.1", "README.md"]
-COMPLETIONS = common.ROOT / "completions"
+PAGES = ["docs/CLI.md", "docs/man1/pgboard.1"]
 # of the script ./pgboard
 OF_SCRIPT = {"--unproved", "--rebuild", "--install"}
 FLAG = r"(?<![\w-])--[a-z][a-z-]*"
@@ -190,12 +195,6 @@ def line_of(command, text):
     return " ".join(filter(None, ["pgboard", command, *(f"[{it}]" for it in flags_of(text)), *files]))
 
 
-def synopsis_block(page):
-    """The block of a page that has its synopsis."""
-    text = common.text_of(page)
-    return BLOCK.search(text, text.find("\n## Commands\n") if page == "README.md" else 0)[2]
-
-
 def man_page():
     """The parts of the man page as plain text, by heading; a line `.TP` or `.br` stays."""
     lines = []
@@ -216,7 +215,9 @@ def synopsis_of(page):
     if page.endswith(".1"):
         lines = " ".join(man_page()["SYNOPSIS"].split()).split(" .br ")
         return set(lines) - {"pgboard [COMMAND] --help"}
-    return {re.split(r" {2,}", line)[0] for line in re.sub(r"\n {2,}\b", "  ", synopsis_block(page)).splitlines()}
+    # (the first block of the page)
+    lines = re.sub(r"\n {2,}\b", "  ", BLOCK.search(common.text_of(page))[2]).splitlines()
+    return {re.split(r" {2,}", line)[0] for line in lines}
 
 
 def said_by(page):
@@ -253,7 +254,8 @@ class HelpAgrees(unittest.TestCase):
                 short = help_of(*filter(None, [name]), "-h")
                 self.assertNotIn("Example", short)
                 self.assertIn("Example", whole)
-                self.assertEqual((line_of(name, short), statuses_of(short)), (line_of(name, whole), statuses_of(whole)))
+                self.assertEqual(line_of(name, short), line_of(name, whole))
+                self.assertEqual(statuses_of(short), statuses_of(whole))
                 # (a command's own words may say less)
                 self.assertTrue(statuses_of(whole))
                 self.assertLessEqual({number for number, _ in statuses_of(whole)}, set("012345"))
@@ -277,7 +279,8 @@ class HelpAgrees(unittest.TestCase):
                     self.assertRegex(line, r"\S {2,}\w")
 
     def test_the_numbers_of_the_flags_and_of_a_trace(self):
-        table = re.findall(r"(?m)^\| `(--\w+ N)` \| (\d+) to (\d+) \| (\d+) \|", common.text_of("docs/CLI.md"))
+        of_page = r"(?m)^\| `(--\w+ N)` \| (\d+) to (\d+) \| (\d+) \|"
+        table = re.findall(of_page, common.text_of("docs/CLI.md"))
         self.assertEqual([flag for flag, *_ in table], ["--workers N", "--bound N"])
         for name in self.helps:
             with self.subTest(name):
@@ -287,16 +290,17 @@ class HelpAgrees(unittest.TestCase):
                 self.assertEqual([(f"{flag} N", *numbers) for flag, *numbers in said], wanted)
         of_man = r"(?m)^\.TP\n(--\w+ N)\n(?:(?!\.TP).*\n)*?.*\b(\d+) to (\d+), and (\d+) when absent"
         self.assertEqual(re.findall(of_man, man_page()["OPTIONS"]), table)
-        bounds = re.findall(r"dominions? \w+ at most (\d+) vertices", self.helps["trace"] + common.text_of("docs/TRACE.md"))
-        self.assertEqual(bounds, ["4", "4"])
+        text = self.helps["trace"] + common.text_of("docs/TRACE.md")
+        self.assertEqual(re.findall(r"dominions? \w+ at most (\d+) vertices", text), ["4", "4"])
 
     def test_each_synopsis(self):
+        wanted = {line_of(name, text) for name, text in self.helps.items()}
         for page in PAGES:
             with self.subTest(page):
-                self.assertEqual(synopsis_of(page), {line_of(name, text) for name, text in self.helps.items()})
+                self.assertEqual(synopsis_of(page), wanted)
 
     def test_commands_flags_and_statuses_of_each_page(self):
-        for page in PAGES[:2]:
+        for page in PAGES:
             with self.subTest(page):
                 self.assertEqual(said_by(page), (self.commands, self.flags, self.statuses))
         commands, flags, _ = said_by("README.md")
@@ -312,38 +316,9 @@ class HelpAgrees(unittest.TestCase):
         ((printed, kit),) = re.findall(r"^pgboard (\S+)\nkit: (.*)\n", help_of("--version"))
         self.assertEqual([printed], re.findall(r"(?m)^## ([0-9][0-9.]*)", common.text_of("CHANGELOG.md"))[:1])
         self.assertEqual([printed], re.findall(r'"pgboard ([0-9.]+)"', common.text_of("docs/man1/pgboard.1")))
+        self.assertEqual([printed], re.findall(r"(?m)^version: (.*)$", common.text_of("CITATION.cff")))
         self.assertEqual(kit, common.kit())
-        self.assertEqual([kit], re.findall(r"the kit's line `([^`]*)`", common.text_of("README.md")))
-
-    def offered(self, *words, **env):
-        """What bash offers where the last of these words stands."""
-        script = 'source "$0"; COMP_WORDS=(pgboard "$@"); COMP_CWORD=$#; _pgboard; printf "%s\\n" "${COMPREPLY[@]}"'
-        path = ["bash", "-c", script, COMPLETIONS / "pgboard.bash", *words]
-        return set(common.run(path, env={"PATH": "/usr/bin:/bin", **env})[1].decode().split())
-
-    def test_the_completions_of_bash(self):
-        self.assertEqual(self.offered(""), {*self.commands, "help"})
-        for command, text in self.helps.items():
-            with self.subTest(command):
-                listed = set(re.findall(r"(?m)^ +(?:-\w, )?(--[a-z]+)", text))
-                self.assertEqual(self.offered(*filter(None, [command]), "--"), listed)
-        self.assertEqual(self.offered("solve", "--bound", ""), set("012345678"))
-        self.assertEqual(self.offered("trace", "--workers", "6"), {"6", "60", "61", "62", "63", "64"})
-        self.assertEqual(self.offered("solve", "--known", ""), set())
-        # the script has options of its own, before a command
-        path = f"{common.ROOT}:/usr/bin:/bin"
-        self.assertEqual(self.offered("--", PATH=path), {"--help", "--version", *OF_SCRIPT})
-        self.assertEqual(self.offered("tidy", "--", PATH=path), {"--help"})
-
-    def test_the_completions_of_zsh_and_fish(self):
-        zsh, fish = (re.sub(r"(?m)^#.*", "", (COMPLETIONS / it).read_text(encoding="utf-8")) for it in ("_pgboard", "pgboard.fish"))
-        self.assertEqual(set(re.findall(r"--[a-z]+", re.sub(r"head.*", "", zsh))), self.flags | OF_SCRIPT)
-        self.assertEqual({f"--{it}" for it in re.findall(r"(?m)^complete .* -l ([a-z]+)", fish)}, self.flags | OF_SCRIPT)
-        self.assertEqual(set(re.findall(r"(?m)^    '([a-z]+):", zsh)), {*self.commands, "help"})
-        self.assertEqual(set(re.findall(r" -f -a ([a-z]+) ", fish)), {*self.commands, "help"})
-        ranges = {("workers", "1", "64"), ("bound", "0", "8")}
-        self.assertEqual(set(re.findall(r"--(\w+)\[.*:number:\(\{(\d+)\.\.(\d+)\}\)'", zsh)), ranges)
-        self.assertEqual(set(re.findall(r' -l (\w+) -x -a "\(seq (\d+) (\d+)\)"', fish)), ranges)
+        self.assertEqual([kit], re.findall(r"the kit's line `([^`]*)`", common.text_of("docs/INSTALL.md")))
 
 
 # --- code on the pages of crates ---
@@ -371,11 +346,18 @@ class Judge(unittest.TestCase):
 
 
 def tests_of(crate):
-    """The unit tests of a crate: in the crate itself, in a crate of tests of its own, or in the folder of its name in another."""
+    """The unit tests of a crate: in itself, in a crate of its own or in the folder of its name in another."""
     name = crate.removeprefix("pg_")
     forms = [f"{crate}/src/**/tests*.rt", f"{crate}/src/**/tests/**/*.rt", f"{crate}_tests/src/tests/*.rt"]
     forms += [f"*_tests/src/tests/{name}.rt", f"*_tests/src/tests/{name}/**/*.rt"]
-    return [common.text_of(it) for it in sorted({path for it in forms for path in common.ROOT.glob(f"crates/{it}")})]
+    paths = {path for it in forms for path in common.ROOT.glob(f"crates/{it}")}
+    return [common.text_of(it) for it in sorted(paths)]
+
+
+def is_run(page, code):
+    """Whether a block of a page is an example, or consists of examples."""
+    whole = [text for _, *texts in examples(common.text_of(page)) for text in texts]
+    return code in whole or not PAIR.sub("", code)
 
 
 def is_tested(page, block):
@@ -385,12 +367,10 @@ def is_tested(page, block):
         return any(is_in(code, it) for it in tests_of((common.ROOT / page).parent.name))
     if language == "c":
         return any(is_in(code, program) for program, _ in c_programs(common.text_of(C_PAGE))[0])
-    if language == "console":
-        # (launcher.py runs these)
-        return page == "README.md"
-    shown = examples(common.text_of(page)) if page == "README.md" else []
-    is_run = any(code in (commands, printed) for _, commands, printed in shown)
-    return language in ("sh", "text") and (is_run or code == synopsis_block(page))
+    if page != "README.md":
+        return False
+    # (launcher.py runs the blocks `console`)
+    return language == "console" or language in ("sh", "text") and is_run(page, code)
 
 
 class Code(unittest.TestCase):
@@ -404,39 +384,6 @@ class Code(unittest.TestCase):
             for at, block in enumerate(blocks, 1):
                 with self.subTest(page, block=at):
                     self.assertTrue(is_tested(page, block))
-
-
-# --- words ---
-
-PROSE = ["*.md", "docs/*.md", "bench/*.md", "examples/*.md", "tests/README.md", "crates/*/README.md", "bindings/*/README.md"]
-# what a page may not say, and what it says in its place
-WORDS = {
-    r"rooms?": "capacity, memory, buffer",
-    r"told": "returned, printed, known",
-    r"stands? for": "is, means",
-    r"lets? (?:\w+ )?go": "frees, drops",
-    r"by the clock": "wall time",
-    r"its (?:one|only) refusal": "its only error",
-    r"behind (?:it|them)": "after",
-}
-
-
-def plain_text(page):
-    """A page's text, in which each code in backquotes is one word; without blocks, and without what is made of sources."""
-    text = re.sub(r"(?ms)^ *```.*?^ *```$", "", common.text_of(page))
-    if page == "docs/THEOREM.md":
-        text = text.split("\n## Definitions")[0]
-    # a link is its words
-    return re.sub(r"\[([^\]]*)\]\([^)]*\)", r"\1", re.sub(r"`[^`\n]+`", "CODE", text))
-
-
-class Prose(unittest.TestCase):
-    def test_no_page_has_words_of_our_own(self):
-        self.assertGreater(len(pages(*PROSE)), 10)
-        for page in pages(*PROSE):
-            for word, better in WORDS.items():
-                with self.subTest(page, better=better):
-                    self.assertNotRegex(plain_text(page), rf"(?i)(?<![\w-]){word}(?![\w-])")
 
 
 if __name__ == "__main__":

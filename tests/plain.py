@@ -9,7 +9,8 @@ import re
 GREATEST = 2_147_483_647
 TOKEN = re.compile(rb'[ \t\r\n]+|(?P<n>[0-9]+)|(?P<w>[A-Za-z]+)|(?P<q>"[^"]*")|(?P<c>,)|(?P<s>;)|(?P<none>.)')
 
-# The letter of each token in turn: n number, p parity, t start, y paritysol, w other word, q name, c comma, s semicolon
+# the letter of each token in turn: n number, p parity, t start, y paritysol, w other word, q name, c comma,
+# s semicolon
 GAME = re.compile(r"(pns)?(tns)?(nnnn(cn)*q?s)+")
 SOLUTION = re.compile(r"(yns)?(nnn?s)*")
 WORDS = {b"parity": "p", b"start": "t", b"paritysol": "y"}
@@ -54,7 +55,9 @@ def lines_of(text, whole, headers):
     demand_syntax(found, len(text), whole)
     for token in found:
         demand(token[0] != "n" or int(token[2]) <= GREATEST, f"byte {token[1]}: number too large")
-    lines = [list(line) for is_end, line in itertools.groupby(found, lambda token: token[0] == "s") if not is_end]
+    lines = [
+        list(line) for is_end, line in itertools.groupby(found, lambda token: token[0] == "s") if not is_end
+    ]
     return [line for line in lines if line[0][0] not in headers]
 
 
@@ -75,8 +78,9 @@ def game_of(text):
 
 
 def known_of(game, text):
-    """Returns what a solution text says that may leave vertices out, a dictionary from identifiers to (winner, choice or
-    None)."""
+    """Returns what a solution text says that may leave vertices out, a dictionary from identifiers to
+    (winner, choice or None).
+    """
     rows = lines_of(text, SOLUTION, "y")
     for line in rows:
         demand(int(line[1][2]) < 2, f"byte {line[1][1]}: winner is not 0 or 1")
@@ -107,11 +111,17 @@ def kept(game, solution, id):
 
 
 def is_greatest_on_a_closed_walk(game, solution, id):
-    """Whether a walk of kept edges leads from the vertex to itself over vertices of no greater priority that the solution
-    names, which may be some of the game's."""
+    """Whether a walk of kept edges leads from the vertex to itself over vertices of no greater priority that
+    the solution names, which may be some of the game's.
+    """
     reached, last = set(), {id}
     while last:
-        last = {to for at in last for to in kept(game, solution, at) if to in solution and game[to][0] <= game[id][0]} - reached
+        last = {
+            to
+            for at in last
+            for to in kept(game, solution, at)
+            if to in solution and game[to][0] <= game[id][0]
+        } - reached
         reached |= last
     return id in reached
 
@@ -135,14 +145,17 @@ def verdict(game, solution):
 
 
 def region_faults(game, rows, player, lost=frozenset()):
-    """What is wrong with the rows of a player as his region, in order; the lost vertices are the opponent's."""
+    """What is wrong with the rows of a player as his region, in order; the lost vertices are the opponent's.
+    """
     part = {id: rows[id] for id in sorted(rows) if rows[id][0] == player}
     owned = (id for id in part if game[id][1] == player)
     yield from (f"bad choice or none at {id}" for id in owned if part[id][1] not in game[id][2])
     bad = (id for id in part if game[id][0] % 2 != player)
     yield from (f"bad cycle at {id}" for id in bad if is_greatest_on_a_closed_walk(game, part, id))
     yield from (f"{id} is lost" for id in part if id in lost)
-    yield from (f"{id} leaves to {to}" for id in part for to in sorted(kept(game, part, id)) if to not in part)
+    yield from (
+        f"{id} leaves to {to}" for id in part for to in sorted(kept(game, part, id)) if to not in part
+    )
 
 
 def known_faults(game, known):
@@ -154,7 +167,12 @@ def known_faults(game, known):
 def attracted(game, target, player):
     """The attractor of a set: a step at a time until nothing comes."""
     while True:
-        more = {id for id in game if id not in target and (any if game[id][1] == player else all)(to in target for to in game[id][2])}
+        more = {
+            id
+            for id in game
+            if id not in target
+            and (any if game[id][1] == player else all)(to in target for to in game[id][2])
+        }
         if not more:
             return target
         target = target | more
@@ -171,16 +189,22 @@ def ladder(levels):
         rows["d", i] = 3 * i + 4, i % 2, [("e", i), *(("d", j) for j in (i - 1, i + 1) if 0 <= j < levels)]
         rows["e", i] = 3 * i + 3, 1 - i % 2, [("d", i), ("b", i)][: 1 + (i > 0)]
     number = {name: v for v, name in enumerate(rows)}
-    return {number[name]: (priority, owner, {number[to] for to in row}) for name, (priority, owner, row) in rows.items()}
+    return {
+        number[name]: (priority, owner, {number[to] for to in row})
+        for name, (priority, owner, row) in rows.items()
+    }
 
 
 def part(game, vertices):
-    return {id: (priority, owner, row & vertices) for id, (priority, owner, row) in game.items() if id in vertices}
+    return {
+        id: (priority, owner, row & vertices) for id, (priority, owner, row) in game.items() if id in vertices
+    }
 
 
 def recursion(game):
-    """The winners by Zielonka's recursion (1998), and how many subgames that have a vertex it begins. It sets aside what the greatest
-    priorities of one parity attract."""
+    """The winners by Zielonka's recursion (1998), and how many subgames that have a vertex it begins. It
+    sets aside what the greatest priorities of one parity attract.
+    """
     if not game:
         return {}, 0
     player = max(priority for priority, _, _ in game.values()) % 2
@@ -215,7 +239,8 @@ def written_solution(game, solution):
 
 
 def refused(text, why):
-    """The answer that refuses a text, the game or the solution: status, standard output and standard error."""
+    """The answer that refuses a text, the game or the solution: status, standard output and standard error.
+    """
     return 3, b"", f"pgboard: {text}: {why}\n".encode()
 
 
@@ -241,18 +266,28 @@ def verified(text, solution_text):
 
 
 def written_fault(game, text):
-    """What is wrong with a text as a written solution of the game that has choices exactly where they are needed, or None."""
+    """What is wrong with a text as a written solution of the game that has choices exactly where they are
+    needed, or None.
+    """
     try:
         solution = solution_of(game, text)
     except Refused as why:
         return str(why)
     line = verdict(game, solution)
     is_written = written_solution(game, solution).encode() == text
-    return line if line != "ok\n" else None if is_written else "it is not the written form, or has a choice too many"
+    return (
+        line
+        if line != "ok\n"
+        else None
+        if is_written
+        else "it is not the written form, or has a choice too many"
+    )
 
 
 ENTRY, JOB = r"entry N N [01] N N\n(?:N(?: N)?;\n)+", r"job N (?:-|N) N N N N [01] [01]\n"
-TRACE = re.compile(rf"journal N N\n(?:{ENTRY})*report N\n(?:{JOB})+total N N N N\n".replace("N", "(?:0|[1-9][0-9]*)"))
+TRACE = re.compile(
+    rf"journal N N\n(?:{ENTRY})*report N\n(?:{JOB})+total N N N N\n".replace("N", "(?:0|[1-9][0-9]*)")
+)
 
 
 def numbers(line):
@@ -262,8 +297,8 @@ def numbers(line):
 def trace_fault(game, workers, text):
     """What is wrong with a trace of the game by so many workers, or None.
 
-    The entries have to give each vertex once, and together a solution. The report has to have a row for each job, and its columns
-    have to agree with the entries.
+    The entries have to give each vertex once, and together a solution. The report has to have a row for each
+    job, and its columns have to agree with the entries.
     """
     try:
         demand(TRACE.fullmatch(text.decode()), "it does not have the form of a trace")
@@ -285,7 +320,10 @@ def read_journal(game, workers, text):
         sizes[worker].append(size)
         solution.update({id: (player, choice[0] if choice else None) for id, *choice in rows})
     demand(numbers(head) == [len(entries), len(game)], "the first line has other numbers")
-    demand(solution.keys() == game.keys() and sum(map(sum, sizes.values())) == len(game), "the entries don't give each vertex once")
+    demand(
+        solution.keys() == game.keys() and sum(map(sum, sizes.values())) == len(game),
+        "the entries don't give each vertex once",
+    )
     demand(verdict(game, solution) == "ok\n", "the entries give no solution")
     return sizes
 
@@ -304,4 +342,7 @@ def judge_report(game, sizes, text):
     demand({it[1] for it in rows} <= {"-", *(str(it) for it in sizes if it)}, "a job is of no worker")
     for worker in range(1, len(sizes)):
         reported = sums([it for it in rows if it[1] == str(worker)])[:2]
-        demand(reported == [len(sizes[worker]), sum(sizes[worker])], f"worker {worker} posted {sizes[worker]}, and {reported} is reported")
+        demand(
+            reported == [len(sizes[worker]), sum(sizes[worker])],
+            f"worker {worker} posted {sizes[worker]}, and {reported} is reported",
+        )

@@ -1,15 +1,18 @@
 """A board by its definitions, as plainly as can be: slow, for small games alone. A game is one of plain.py.
 
-Nothing of it is taken from pgboard: tests compare the two. What a board may choose, it does not choose: `entry_fault` says whether an
-entry answers a claim, and `add` takes it over.
+Nothing of it is taken from pgboard: tests compare the two. What a board may choose, it does not choose:
+`entry_fault` says whether an entry answers a claim, and `add` takes it over.
 """
 
 import plain
 
 
 class Board:
-    """A game and its journal: a list of entries (worker, player, how many rows were claimed, rows), the oldest first. A row is a vertex,
-    and a choice or None; a claim is a player and rows."""
+    """A game and its journal: a list of entries, the oldest first.
+
+    An entry is (worker, player, how many rows were claimed, rows). A row is a vertex, and a choice or None; a
+    claim is a player and rows.
+    """
 
     def __init__(self, game):
         self.game, self.journal = game, []
@@ -48,11 +51,15 @@ class Board:
         if not rest:
             yield "stale", 0, 0
         inside = won | {v for v, _ in rest}
-        yield from (("open", v, w) for v, _ in rest for w in sorted(plain.kept(self.game, part, v)) if w not in inside)
+        yield from (
+            ("open", v, w) for v, _ in rest for w in sorted(plain.kept(self.game, part, v)) if w not in inside
+        )
 
     def is_right(self, player, rows, i):
-        """Whether the vertex of a row is one, and after the row before, and has a choice, one of its successors, exactly where the player
-        owns it."""
+        """Whether the vertex of a row is one, and after the row before.
+
+        And has a choice, one of its successors, exactly where the player owns it.
+        """
         v, choice = rows[i]
         if v not in self.game or i and v <= rows[i - 1][0]:
             return False
@@ -68,7 +75,9 @@ class Board:
             return "it is of the other player"
         if given[:claimed] != rest:
             return "it does not begin with the rest"
-        if len(set(vertices)) < len(vertices) or won & set(vertices) or won | set(vertices) != plain.attracted(self.game, won | {v for v, _ in rest}, player):
+        if len(set(vertices)) < len(vertices) or won & set(vertices) or won | set(
+            vertices
+        ) != plain.attracted(self.game, won | {v for v, _ in rest}, player):
             return "it is not the attractor"
         for at, (v, choice) in enumerate(given[claimed:], claimed):
             _, owner, successors = self.game[v]

@@ -1,9 +1,10 @@
 #!/usr/bin/env python3
-"""Compares a built program with plain definitions on small random games: tests/random_games.py [PROGRAM] [--count N] [--seed S]
+"""Compares a built program with plain definitions: tests/random_games.py [PROGRAM] [--count N] [--seed S]
 
-The answers of `tidy` and `verify` are those of plain.py, byte by byte, also for texts with random damage. They are the
-comparator's too, where bench.py has built it. What `solve` and `trace` write is judged by the definitions; parts of a solution,
-with a fault or without, are handed in as known. The same seed gives the same games.
+On small random games the answers of `tidy` and `verify` are those of plain.py, byte by byte, also for texts
+with random damage. They are the comparator's too, where bench.py has built it. What `solve` and `trace`
+write is judged by the definitions. Parts of a solution, with a fault or without, are handed in as known. The
+same seed gives the same games.
 """
 
 import argparse
@@ -21,9 +22,32 @@ import plain
 
 COMPARATOR = common.ROOT / "bench" / "out" / "comparator"
 BLANKS = [b" ", b"\n", b"\t", b"\r\n", b"  ", b" \n "]
-PIECES = [b"0", b"1", b"9", b"00", b",", b";", b" ", b'"', b"-", b"parity", b"start", b"paritysol", b"x", b"2147483648"]
+PIECES = [
+    b"0",
+    b"1",
+    b"9",
+    b"00",
+    b",",
+    b";",
+    b" ",
+    b'"',
+    b"-",
+    b"parity",
+    b"start",
+    b"paritysol",
+    b"x",
+    b"2147483648",
+]
 PIECES += [b"\xff", b"%", b"\n"]
-SOLVES = ["", "--workers 1 --bound 0", "--workers 1", "--workers 2", "--workers 7", "--workers 64", "--workers 3 --bound 2"]
+SOLVES = [
+    "",
+    "--workers 1 --bound 0",
+    "--workers 1",
+    "--workers 2",
+    "--workers 7",
+    "--workers 64",
+    "--workers 3 --bound 2",
+]
 
 # --- random games and texts ---
 
@@ -47,7 +71,11 @@ def blank(chance, needed=False):
 
 def header(chance, word, likely):
     """A header line, or nothing."""
-    return b"".join([word, blank(chance), number(chance, chance.randrange(99)), b";", blank(chance)]) if chance.random() < likely else b""
+    return (
+        b"".join([word, blank(chance), number(chance, chance.randrange(99)), b";", blank(chance)])
+        if chance.random() < likely
+        else b""
+    )
 
 
 def straight_game_text(chance, game):
@@ -72,8 +100,16 @@ def random_game_text(chance, game):
         row = list(successors) + chance.choices(list(successors), k=chance.choice([0, 0, 1, 2]))
         for value in (id, priority, owner):
             text += [number(chance, value), blank(chance, True)]
-        text.append(b",".join(blank(chance) + number(chance, it) + blank(chance) for it in chance.sample(row, len(row))))
-        text += [chance.choice([b"", b"", b'"a b"', b'""', b'"\xc3\xa4;,\xff\n"', b' "x" ']), b";", blank(chance)]
+        text.append(
+            b",".join(
+                blank(chance) + number(chance, it) + blank(chance) for it in chance.sample(row, len(row))
+            )
+        )
+        text += [
+            chance.choice([b"", b"", b'"a b"', b'""', b'"\xc3\xa4;,\xff\n"', b' "x" ']),
+            b";",
+            blank(chance),
+        ]
     return b"".join(text)
 
 
@@ -81,7 +117,12 @@ def random_solution_text(chance, solution):
     text = [header(chance, b"paritysol", 0.5)]
     for id in chance.sample(list(solution), len(solution)):
         row = [it for it in (id, *solution[id]) if it is not None]
-        text += [blank(chance, True).join(number(chance, it) for it in row), blank(chance), b";", blank(chance)]
+        text += [
+            blank(chance, True).join(number(chance, it) for it in row),
+            blank(chance),
+            b";",
+            blank(chance),
+        ]
     return b"".join(text)
 
 
@@ -89,7 +130,9 @@ def damaged(chance, text):
     """The text with a few bytes left out, put in or cut off."""
     for _ in range(chance.randint(1, 2)):
         at = chance.randint(0, len(text))
-        piece, count = chance.choice([(b"", chance.randint(1, 3)), (chance.choice(PIECES), chance.randint(0, 1)), (b"", len(text))])
+        piece, count = chance.choice(
+            [(b"", chance.randint(1, 3)), (chance.choice(PIECES), chance.randint(0, 1)), (b"", len(text))]
+        )
         text = text[:at] + piece + text[at + count :]
     return text
 
@@ -119,7 +162,11 @@ def best_region(game, player):
         chosen = dict(zip(owned, choices))
         solution = {id: (player, chosen.get(id)) for id in game}
         # what can reach a bad closed walk under these choices is lost, the rest is a region
-        bad = {id for id in game if game[id][0] % 2 != player and plain.is_greatest_on_a_closed_walk(game, solution, id)}
+        bad = {
+            id
+            for id in game
+            if game[id][0] % 2 != player and plain.is_greatest_on_a_closed_walk(game, solution, id)
+        }
         while more := {id for id in game if id not in bad and plain.kept(game, solution, id) & bad}:
             bad |= more
         won = {**{id: chosen.get(id) for id in game if id not in bad}, **won}
@@ -137,7 +184,12 @@ def with_a_fault(chance, game, known):
         return known
     id = chance.choice(list(known))
     winner, choice = known[id]
-    rows = (1 - winner, choice), (winner, None), (winner, chance.choice(list(game[id][2]))), (winner, chance.choice(list(game)))
+    rows = (
+        (1 - winner, choice),
+        (winner, None),
+        (winner, chance.choice(list(game[id][2]))),
+        (winner, chance.choice(list(game))),
+    )
     return {**known, id: chance.choice(rows)}
 
 
@@ -183,7 +235,15 @@ class Checks:
     def solve_from(self, text):
         """What is wrong with what the program writes from a text of what is known."""
         (self.folder / "part.sol").write_bytes(text)
-        words = ["solve", "--known", "part.sol", "--workers", self.chance.choice("1234"), "--bound", self.chance.choice("048")]
+        words = [
+            "solve",
+            "--known",
+            "part.sol",
+            "--workers",
+            self.chance.choice("1234"),
+            "--bound",
+            self.chance.choice("048"),
+        ]
         got = self.run(words, self.text)
         try:
             known = plain.known_of(self.game, text)
@@ -197,15 +257,23 @@ class Checks:
         if why:
             return f"from {text}: {got}, {why}"
         solution = plain.solution_of(self.game, got[1])
-        wanted = {id: (winner, choice if self.game[id][1] == winner else None) for id, (winner, choice) in known.items()}
+        wanted = {
+            id: (winner, choice if self.game[id][1] == winner else None)
+            for id, (winner, choice) in known.items()
+        }
         return None if wanted.items() <= solution.items() else f"from {text} it has {solution}"
 
     def solve_from_each_part(self, solution):
         """Each part of a player's winning region is taken exactly where it is a region."""
         for player in (0, 1):
             region = [id for id in self.game if solution[id][0] == player]
-            parts = (ids for count in range(1, len(region) + 1) for ids in itertools.combinations(region, count))
-            yield from (self.solve_from(random_solution_text(self.chance, {id: solution[id] for id in ids})) for ids in parts)
+            parts = (
+                ids for count in range(1, len(region) + 1) for ids in itertools.combinations(region, count)
+            )
+            yield from (
+                self.solve_from(random_solution_text(self.chance, {id: solution[id] for id in ids}))
+                for ids in parts
+            )
 
     def trace(self, game, text):
         workers = self.chance.choice([1, 2, 4, 64])
@@ -224,14 +292,20 @@ class Checks:
             yield name, self.differs(["tidy"], text, plain.tidied(text))
         for solution in (right, other):
             yield "verify", self.verify(random_solution_text(chance, solution), chance.random() < 0.5)
-        yield "verify of a damaged text", self.verify(damaged(chance, random_solution_text(chance, other)), False)
+        yield "verify of a damaged text", self.verify(
+            damaged(chance, random_solution_text(chance, other)), False
+        )
         yield "solve", self.solve()
         yield "solve from a part", self.solve_from(random_solution_text(chance, part))
         yield "solve from a part with a fault", self.solve_from(wrong)
-        yield "solve from some of a random solution", self.solve_from(random_solution_text(chance, some_of(chance, other)))
+        yield "solve from some of a random solution", self.solve_from(
+            random_solution_text(chance, some_of(chance, other))
+        )
         yield "solve from a damaged text", self.solve_from(damaged(chance, wrong))
         if chance.random() < 0.03:
-            yield "solve from each part of a region", next(filter(None, self.solve_from_each_part(right)), None)
+            yield "solve from each part of a region", next(
+                filter(None, self.solve_from_each_part(right)), None
+            )
         yield "trace", self.trace(game, self.text)
         if chance.random() < 0.02:
             # of more than one batch of vertices
@@ -246,7 +320,7 @@ def judged(number):
 
 
 def small_dominions(count):
-    """Blocks of four vertices with choices of both players, which Even and Odd win in turn, so the journal is long."""
+    """Blocks of four vertices with choices of both players; Even and Odd win them in turn: a long journal."""
     offsets = ((1, 2), (0, 3), (0,), (0, 2))
     rows = [(v, 0 if v % 4 else 2 + v // 4 % 2, (v % 4 in (1, 2)) ^ v // 4 % 2) for v in range(count)]
     return {v: (p, o, {v - v % 4 + it for it in offsets[v % 4]}) for v, p, o in rows}
@@ -262,7 +336,9 @@ class RandomGames(unittest.TestCase):
 
     def check_trace(self, game, workers):
         """The trace of a game, by which memory is refused to nobody."""
-        status, out, err = common.program("trace", "--workers", str(workers), given=plain.written_game(game).encode(), timeout=300)
+        status, out, err = common.program(
+            "trace", "--workers", str(workers), given=plain.written_game(game).encode(), timeout=300
+        )
         self.assertEqual((status, err), (0, b""))
         self.assertIsNone(plain.trace_fault(game, workers, out))
         self.assertNotRegex(out, rb"(?m)^job .* 1$")
@@ -275,7 +351,12 @@ class RandomGames(unittest.TestCase):
     @common.needs_speed
     def test_each_of_4095_jobs_is_done(self):
         """The search of each batch finds a dominion of its player, and the recursion solves the rest."""
-        game, found = plain.written_game(small_dominions(130_944)).encode(), [(0, 0), (0, 0), *[(1, 4)] * 4_092, (2, 130_944 - 4 * 4_092)]
+        game, found = plain.written_game(small_dominions(130_944)).encode(), [
+            (0, 0),
+            (0, 0),
+            *[(1, 4)] * 4_092,
+            (2, 130_944 - 4 * 4_092),
+        ]
         wanted = [f"job {job} 1 {posted} {settled} 0 0 0 0" for job, (posted, settled) in enumerate(found)]
         out = common.program("trace", "--workers", "1", given=game)[1].decode()
         self.assertEqual(re.findall("(?m)^job .*$", out), wanted)
@@ -291,6 +372,15 @@ class RandomGames(unittest.TestCase):
         for workers in range(1, 65):
             with self.subTest(workers=workers):
                 self.check_trace(small_dominions(400), workers)
+
+    def test_a_written_solution_that_is_wrong_is_refused(self):
+        game = {3: (2, 0, {3, 9}), 9: (1, 1, {9}), 12: (0, 1, {3})}
+        text = b"paritysol 12;\n3 0 3;\n9 1 9;\n12 0;\n"
+        self.assertIsNone(plain.written_fault(game, text))
+        wrong = text.replace(b"9 1 9", b"9 0")
+        self.assertEqual(plain.written_fault(game, wrong), "not a solution: bad cycle at 9\n")
+        chain = {v: (0, 0, {max(v - 1, 0)}) for v in range(7)}
+        self.assertEqual(plain.attracted(chain, {0}, 0), {*chain})
 
     def test_a_damaged_trace_is_refused(self):
         game = plain.game_of(b"0 2 0 0,1; 1 1 1 1;")

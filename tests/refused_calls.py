@@ -1,12 +1,14 @@
 #!/usr/bin/env python3
-"""Refuses each allocation in turn, each start of a thread, each read and each write: tests/refused_calls.py [PROGRAM] [-k WORD]
+"""Refuses allocations, starts of threads, reads and writes: tests/refused_calls.py [PROGRAM] [-k WORD]
 
-refuse.c, which is loaded before a program, does the refusing, and measures the memory of a run; it needs cc. A run of the built program that is refused memory
-ends in status 5 with nothing written, or as one with all memory may. A start that is refused leaves its worker out. Texts are
-read, and outputs written, byte by byte up to a failure at each place.
+refuse.c, which is loaded before a program, does the refusing, and measures the memory of a run; it needs cc.
+A run of the built program that is refused memory ends in status 5 with nothing written, or as one with all
+memory may. A start that is refused leaves its worker out. Texts are read, and outputs written, byte by byte
+up to a failure at each place.
 
-The unit tests in a module `memory`, as `rt ci` has built them, make their calls, look after a refusal that nothing has changed,
-and make the call again. So each run passes, or ends because memory was refused to what the test needs itself.
+The unit tests in a module `memory`, as `rt ci` has built them, make their calls, look after a refusal that
+nothing has changed, and make the call again. So each run passes, or ends because memory was refused to what
+the test needs itself.
 """
 
 import concurrent.futures
@@ -18,7 +20,8 @@ import common
 import plain
 import random_games
 
-CONTINENTS = b'parity 4; 0 6 1 4,2 "Africa"; 4 5 1 0 "Antarctica"; 1 8 1 2,4,3 "America"; 3 6 0 4,2 "Australia"; 2 7 0 3,1,0,4 "Asia";'
+CONTINENTS = b'parity 4; 0 6 1 4,2 "Africa"; 4 5 1 0 "Antarctica"; 1 8 1 2,4,3 "America"; '
+CONTINENTS += b'3 6 0 4,2 "Australia"; 2 7 0 3,1,0,4 "Asia";'
 ONE_EACH = b"0 2 0 0,1; 1 1 1 1;"
 LAYERS = b"0 0 0 0; 1 3 0 0,1; 2 3 1 1;"
 GAPS = b"9 2 1 3,3,9; 3 1 0 9;"
@@ -26,7 +29,9 @@ GAPS = b"9 2 1 3,3,9; 3 1 0 9;"
 TWO_CYCLE = b"0 0 0 1; 1 1 1 0;"
 # a hundred parts alike, of which neither loops nor solitaire parts settle anything
 PART = b"%d 4 0 %d; %d 3 1 %d,%d; %d 0 1 %d,%d; %d 3 0 %d,%d;"
-TWO_SIDED = b"".join(PART % tuple(v + it for it in (0, 1, 1, 2, 3, 2, 0, 3, 3, 1, 2)) for v in range(0, 400, 4))
+TWO_SIDED = b"".join(
+    PART % tuple(v + it for it in (0, 1, 1, 2, 3, 2, 0, 3, 3, 1, 2)) for v in range(0, 400, 4)
+)
 GAMES = [CONTINENTS, ONE_EACH, LAYERS, GAPS, b"parity 5;start 77;00 07 01 0,00;"]
 HOLDS = b"paritysol 1;\n0 0 0;\n1 1 1;\n"
 JOINED = b"parity 1;\n0 2 0 0,1;\n1 1 1 1;\n%" + HOLDS
@@ -61,7 +66,12 @@ RUNS = [
     *(("tidy", game, 0) for game in GAMES),
     ("tidy game.pg", b"", 0),
     ("tidy", b"0 0 0 7;", 3),
-    *((f"{command} --workers {n}", game, 0) for command in ("solve", "trace") for game in GAMES for n in (1, 2)),
+    *(
+        (f"{command} --workers {n}", game, 0)
+        for command in ("solve", "trace")
+        for game in GAMES
+        for n in (1, 2)
+    ),
     ("solve --workers 1 --known part.sol", LAYERS, 0),
     ("solve --workers 2 --known odd.sol", ONE_EACH, 0),
     ("solve --known open.sol", LAYERS, 1),
@@ -71,7 +81,18 @@ RUNS = [
     ("solve --winners", CONTINENTS, 0),
     ("solve --bound 0 --workers 1", CONTINENTS, 0),
     *((words, b"", 0) for words in ("--version", "--help", "-h", "solve --help", "help verify")),
-    *((words, b"", 2) for words in ("x", "tidy --x", "tidy a b", "verify a", "solve --workers 0", "solve --bound 9", "trace --workers x")),
+    *(
+        (words, b"", 2)
+        for words in (
+            "x",
+            "tidy --x",
+            "tidy a b",
+            "verify a",
+            "solve --workers 0",
+            "solve --bound 9",
+            "trace --workers x",
+        )
+    ),
 ]
 
 
@@ -83,21 +104,41 @@ class Refusing(unittest.TestCase):
         cls.folder, cls.numbers = common.make_folder(cls), itertools.count()
         for name, text in FILES.items():
             (cls.folder / name).write_bytes(text)
-        built = common.run(["cc", "-O1", "-shared", "-fPIC", "-o", cls.folder / "refuse.so", common.ROOT / "tests" / "refuse.c", "-ldl"])
+        built = common.run(
+            [
+                "cc",
+                "-O1",
+                "-shared",
+                "-fPIC",
+                "-o",
+                cls.folder / "refuse.so",
+                common.ROOT / "tests" / "refuse.c",
+                "-ldl",
+            ]
+        )
         assert built[0] == 0, built
 
     def counted(self, words, given=b"", path=None, **refused):
         """Status, standard output and standard error, and the six numbers of refuse.c."""
         counts = self.folder / f"counts {next(self.numbers)}"
-        env = {"LD_PRELOAD": self.folder / "refuse.so", "COUNTS": counts, **{name: str(n) for name, n in refused.items()}}
+        env = {
+            "LD_PRELOAD": self.folder / "refuse.so",
+            "COUNTS": counts,
+            **{name: str(n) for name, n in refused.items()},
+        }
         ran = common.run([path or common.PROGRAM, *words], given, cwd=self.folder, env=env)
         # (a program that a signal ends leaves no counts)
-        return ran, [int(it) for it in counts.read_text(encoding="ascii").split()] if counts.exists() else [0] * 6
+        return (
+            ran,
+            [int(it) for it in counts.read_text(encoding="ascii").split()] if counts.exists() else [0] * 6,
+        )
 
     def each(self, kind, numbers, words, given=b"", path=None, **more):
-        """The number and the answer of each refusal, in order. What a run asked for less often wasn't refused."""
+        """The number and the answer of each refusal; a run that asked less often was refused nothing."""
         with concurrent.futures.ThreadPoolExecutor(4) as pool:
-            yield from zip(numbers, pool.map(lambda n: self.counted(words, given, path, **{kind: n}, **more)[0], numbers))
+            yield from zip(
+                numbers, pool.map(lambda n: self.counted(words, given, path, **{kind: n}, **more)[0], numbers)
+            )
 
 
 @common.needs("cc")
@@ -105,7 +146,13 @@ class Refusing(unittest.TestCase):
 class Program(Refusing):
     def is_right(self, words, given, whole, got):
         """Whether an answer is the one with all memory, or another solution or history of the game."""
-        if got == whole or got[2] or got[0] or words[:1] not in (["solve"], ["trace"]) or "--winners" in words:
+        if (
+            got == whole
+            or got[2]
+            or got[0]
+            or words[:1] not in (["solve"], ["trace"])
+            or "--winners" in words
+        ):
             return got == whole
         game = plain.game_of(given)
         if words[0] == "solve":
@@ -118,7 +165,9 @@ class Program(Refusing):
         # (some more numbers, since two workers share out their allocations anew in each run)
         answers = list(self.each("REFUSE_ALLOC", range(1, count + 10), words, given, **more, **started))
         for n, got in answers:
-            self.assertTrue(got == NO_MEMORY or self.is_right(words, given, whole, got), f"allocation {n}: {got}")
+            self.assertTrue(
+                got == NO_MEMORY or self.is_right(words, given, whole, got), f"allocation {n}: {got}"
+            )
         self.assertIn(NO_MEMORY, [got for _, got in answers])
 
     def test_each_allocation(self):
@@ -135,7 +184,7 @@ class Program(Refusing):
                 self.judge_allocations(words, game, 0, more, TOGETHER=2)
 
     def test_a_start_that_is_refused_leaves_the_worker_out(self):
-        """The report has five rows without a worker. A start is refused by the system, or by one of the allocations."""
+        """The report has five rows without a worker. The system refuses a start, or an allocation."""
         for command, out in (("trace", NOBODY), ("solve", HOLDS)):
             words = [command, "--workers", "1"]
             self.assertEqual(self.counted(words, ONE_EACH, REFUSE_THREAD=1)[0], (0, out, b""))
@@ -147,19 +196,31 @@ class Program(Refusing):
         """Of two or four workers each start in turn is refused, and then all from it on."""
         game = plain.game_of(TWO_SIDED)
         for workers, more in itertools.product((2, 4), ({}, {"REFUSE_FROM": 1})):
-            for n, got in self.each("REFUSE_THREAD", range(1, workers + 1), ["trace", "--workers", str(workers)], TWO_SIDED, **more):
+            for n, got in self.each(
+                "REFUSE_THREAD",
+                range(1, workers + 1),
+                ["trace", "--workers", str(workers)],
+                TWO_SIDED,
+                **more,
+            ):
                 with self.subTest(workers=workers, start=n, **more):
-                    self.assertEqual((got[0], got[2], plain.trace_fault(game, workers, got[1])), (0, b"", None))
+                    self.assertEqual(
+                        (got[0], got[2], plain.trace_fault(game, workers, got[1])), (0, b"", None)
+                    )
                     # the workers keep their numbers; the one that did not start has no job
                     out = range(n, workers + 1) if more else [n]
-                    drawers = {line.split()[2] for line in got[1].decode().splitlines() if line.startswith("job ")}
+                    drawers = {
+                        line.split()[2] for line in got[1].decode().splitlines() if line.startswith("job ")
+                    }
                     self.assertFalse(drawers & {str(it) for it in out}, got)
                     self.assertEqual("-" in drawers, len(out) == workers, got)
 
     def test_a_start_that_is_refused_ends_no_other(self):
         for n in range(1, 5):
             with self.subTest(start=n):
-                self.assertEqual(self.counted(["solve", "--workers", "4"], TWO_SIDED, REFUSE_THREAD=n)[1][1], 4)
+                self.assertEqual(
+                    self.counted(["solve", "--workers", "4"], TWO_SIDED, REFUSE_THREAD=n)[1][1], 4
+                )
 
     def test_each_worker_is_started_whatever_the_game(self):
         for game, workers in itertools.product((*GAMES, TWO_CYCLE, TWO_SIDED), (1, 2, 64)):
@@ -174,21 +235,19 @@ class Program(Refusing):
                 status, out, err = self.counted([command], game, REFUSE_ABOVE=2 * both)[0]
                 self.assertEqual((status, err, bool(out)), (0, b"", True))
 
-    def test_an_entry_of_the_journal_has_memory_for_its_own_rows(self):
-        game = plain.written_game(random_games.small_dominions(40_000)).encode()
-        limited = ["bash", "-c", 'ulimit -v 200000; exec "$@"', "", common.PROGRAM, "trace", "--workers", "1"]
-        status, out, err = common.run(limited, game)
-        self.assertEqual((status, err), (0, b""))
-        # (as many entries with capacity for all vertices are 600 megabytes)
-        self.assertRegex(out, rb"\Ajournal 1\d\d\d 40000\n")
-
     def test_a_run_takes_so_many_bytes_for_each_vertex_and_worker(self):
-        """Each bound is at most 2 % above what was measured. Of a cycle all vertices are one claim; the other game has a long journal."""
+        """Each bound is at most 2 % above what was measured.
+
+        Of a cycle all vertices are one claim. The other game has a long journal, whose entries have memory
+        for their own rows alone.
+        """
         n, jobs = 65_536, 2_051
         cycle = b"".join(b"%d 0 0 %d;" % (v, (v + 1) % n) for v in range(n))
         many = plain.written_game(random_games.small_dominions(n)).encode()
         rows = [*itertools.product(("solve", "trace"), ((cycle, 156, 1), (many, 122, 1), (many, 122, 64)))]
-        for command, (game, each, workers) in rows + [("solve --known known.sol", it) for it in ((cycle, 116, 1), (many, 120, 1))]:
+        for command, (game, each, workers) in rows + [
+            ("solve --known known.sol", it) for it in ((cycle, 116, 1), (many, 120, 1))
+        ]:
             with self.subTest(command, each=each, workers=workers):
                 if "--known" in command:
                     (self.folder / "known.sol").write_bytes(self.counted(["solve"], game)[0][1])
@@ -217,7 +276,7 @@ class Program(Refusing):
                 self.assertLessEqual(left, 512 * threads)
 
     def test_a_solution_text_is_freed_before_its_rows_are_made(self):
-        """A text with many blanks takes no more memory than the same text whose last byte is refused once its lines are read."""
+        """A text with many blanks takes as much memory as where its last byte is refused after its lines."""
         (self.folder / "great.pg").write_bytes(b"".join(b"%d 0 0 %d;" % (v, v) for v in range(50_000)))
         text = b"".join(b"%d 0 %d;" % (v, v) for v in range(50_000)) + b" " * 10_000_000
         most = []
@@ -246,7 +305,9 @@ class Program(Refusing):
         of_files = ["-c", 'exec "$@" <many.pg >written', "", common.PROGRAM]
         for words in ("tidy", "tidy many.pg", "solve --winners", "trace"):
             with self.subTest(words):
-                (status, _, err), (_, _, reads, writes, *_) = self.counted([*of_files, *words.split()], path="bash")
+                (status, _, err), (_, _, reads, writes, *_) = self.counted(
+                    [*of_files, *words.split()], path="bash"
+                )
                 self.assertEqual((status, err, writes), (0, b"", 1))
                 self.assertLessEqual(reads, len(game) // 65_536 + 2)
 
@@ -276,7 +337,9 @@ class Program(Refusing):
         ]:
             with self.subTest(words):
                 out = self.counted(words.split(), given)[0][1]
-                for n, got in self.each("REFUSE_WRITE", range(1, len(out) + 1), words.split(), given, PIECE=1):
+                for n, got in self.each(
+                    "REFUSE_WRITE", range(1, len(out) + 1), words.split(), given, PIECE=1
+                ):
                     self.assertEqual(got, (4, out[: n - 1], b"pgboard: write fault\n"), f"write {n}")
                 if len(out) > 5:
                     got = self.counted(words.split(), given, PIECE=5, REFUSE_WRITE=2)[0]
@@ -285,14 +348,23 @@ class Program(Refusing):
 
 # what a unit test says where memory was refused to what it needs itself
 TEST_ENDED = b'error: "no memory for the test itself"\nthe test failed: its result gives status 1\n'
-# The first test of each row needs fewer allocations than the second and this number more; the games of a row have as many
-# vertices. Lists in order are the game as they are, and no allocation is made for it; others are laid out flat, without a value
-# for each of the 40 vertices. The searches of a long cycle end before a ranking is made, as it is of a ladder. Of two games that
-# differ in one edge, or whose searches do, the second makes one, which takes more than three allocations.
-GAME_TESTS, DOMINION_TESTS = "pg_text_tests_tests tests::game::memory", "pg_finders_tests_tests tests::dominion::memory"
+# The first test of each row needs fewer allocations than the second and this number more. The games of a
+# row have as many vertices. Lists in order are the game as they are, and no allocation is made for it;
+# others are laid out flat, without a value for each of the 40 vertices. The searches of a long cycle end
+# before a ranking is made, as it is of a ladder. Of two games that differ in one edge, or whose searches
+# do, the second makes one, which takes more than three allocations.
+GAME_TESTS, DOMINION_TESTS = (
+    "pg_text_tests_tests tests::game::memory",
+    "pg_finders_tests_tests tests::dominion::memory",
+)
 IN_ORDER = "many_lists_in_order_are_a_game_after_a_refusal"
 FEWER = [
-    (GAME_TESTS, "many_lists_in_order_are_the_game_itself_after_a_refusal", "many_lists_in_order_are_made_after_a_refusal", 1),
+    (
+        GAME_TESTS,
+        "many_lists_in_order_are_the_game_itself_after_a_refusal",
+        "many_lists_in_order_are_made_after_a_refusal",
+        1,
+    ),
     (GAME_TESTS, IN_ORDER, "many_lists_with_repeated_successors_are_laid_out_after_a_refusal", 0),
     (GAME_TESTS, "many_falling_lists_are_laid_out_after_a_refusal", IN_ORDER, 40),
     (DOMINION_TESTS, "a_long_cycle_is_judged_after_a_refusal", "a_ladder_is_judged_after_a_refusal", 0),
@@ -312,14 +384,21 @@ FEWER = [
 
 
 @common.needs("cc")
-@unittest.skipUnless(common.PROGRAM == common.BUILT, "the program is not that of `rt ci`, which builds the unit tests")
+@unittest.skipUnless(
+    common.PROGRAM == common.BUILT, "the program is not that of `rt ci`, which builds the unit tests"
+)
 class UnitTests(Refusing):
     def test_each_allocation(self):
         listed = []
         for path in sorted(common.ROOT.glob("crates/*/out/*_tests")):
             _, out, err = common.run([path, "--list"])
-            listed += [(path, it) for it in sorted(set(re.findall(r"\b(?:\w+::)*memory::\w+", (out + err).decode())))]
-        written = [it.read_text(encoding="utf-8").count("#[test]") for it in common.ROOT.glob("crates/*_tests/src/tests/*/memory.rt")]
+            listed += [
+                (path, it) for it in sorted(set(re.findall(r"\b(?:\w+::)*memory::\w+", (out + err).decode())))
+            ]
+        written = [
+            it.read_text(encoding="utf-8").count("#[test]")
+            for it in common.ROOT.glob("crates/*_tests/src/tests/*/memory.rt")
+        ]
         self.assertEqual((len(listed), bool(listed)), (sum(written), True))
         for path, test in listed:
             with self.subTest(f"{path.name} {test}"):
@@ -330,7 +409,9 @@ class UnitTests(Refusing):
         self.assertEqual(whole[0], 0, whole)
         answers = list(self.each("REFUSE_ALLOC", range(1, count + 5), [test], path=path))
         for n, (status, out, err) in answers:
-            self.assertTrue(status == 0 or (status, err) == (101, TEST_ENDED), f"allocation {n}: {status}, {out}, {err}")
+            self.assertTrue(
+                status == 0 or (status, err) == (101, TEST_ENDED), f"allocation {n}: {status}, {out}, {err}"
+            )
         # the calls are met by refusals, and not the test alone
         self.assertIn(0, [status for _, (status, _, _) in answers[:count]])
 

@@ -1,12 +1,10 @@
 """What the tests of the Python package's command and of the scripts of examples/ share: how one is called,
-its pictures read back, and who wins by the definition.
+and its pictures read back.
 """
 
 import contextlib
 import io
-import itertools
 import os
-import pathlib
 import random
 import re
 import shlex
@@ -15,6 +13,8 @@ import sys
 import time
 
 import common
+import plain
+import random_games
 
 EXAMPLES = common.ROOT / "examples"
 BINDINGS = common.ROOT / "bindings" / "python"
@@ -24,8 +24,9 @@ from pgboard import command
 from pgboard.command import words as WORDS
 
 # what signals do in a command they do not do here
-signal.signal(signal.SIGINT, signal.default_int_handler)
 command.on_signals = lambda *handler: None
+signal.signal(signal.SIGINT, signal.default_int_handler)
+SIGNALS = [signal.SIGINT, signal.SIGTERM, signal.SIGHUP]
 WRITE = "--write" in sys.argv
 # a small model for modelcheck.py, and the parts of a specification for synthesise.py
 MODEL = 'des (0, 2, 2)\n(0, "a", 1)\n(1, "a", 0)\n'
@@ -47,11 +48,8 @@ def rows_of(name):
     comment.
     """
     lines = common.text_of("tests", "uses", name).splitlines()
-    return [
-        [it.strip(" ") for it in re.split(r" \|(?= |$)", line, maxsplit=4)]
-        for line in lines
-        if not line.startswith("#")
-    ]
+    split = lambda line: re.split(r" \|(?= |$)", line, maxsplit=4)
+    return [[it.strip(" ") for it in split(line)] for line in lines if not line.startswith("#")]
 
 
 def command_of(name):
@@ -107,9 +105,8 @@ class Use:
     def run_script(self, *words, given=b"", **env):
         """The status, the output and the errors of the script as a process, at the top of the repository."""
         env = {**os.environ, "PGBOARD": shlex.quote(str(common.PROGRAM)), **env}
-        status, out, err = common.run(
-            [*command_of(self.name), *words], given, timeout=600, cwd=common.ROOT, env=env
-        )
+        words = [*command_of(self.name), *words]
+        status, out, err = common.run(words, given, timeout=600, cwd=common.ROOT, env=env)
         return status, out.decode(errors="replace"), err.decode()
 
     def check_growth(self, call, size):
@@ -121,56 +118,18 @@ class Use:
             took.append(time.process_time() - begun)
         self.assertLess(took[1], 10 * took[0] + 0.2)
 
-    def check_picture(self, words, *lines):
-        """That the script draws these lines, and that Graphviz takes them."""
-        path = self.folder / "picture.dot"
-        self.run_script(*words, "--picture", path)
-        for line in lines:
-            self.assertIn(f"    {line};\n", path.read_text(encoding="utf-8"))
-        path = self.folder / "picture.svg"
-        self.run_script(*words, "--picture", path)
-        self.assertIn("</svg>", path.read_text(encoding="utf-8"))
-
-    def check_standard_input(self, path, *words):
-        """That `-` in place of the path gives the same."""
-        wanted = self.run_script(*words)
-        self.assertEqual(
-            self.run_script(
-                *("-" if it == path else it for it in words), given=pathlib.Path(path).read_bytes()
-            ),
-            wanted,
-        )
-        self.assertIn(wanted[0], (0, 1))
-
-    def check_no_verdict(self, *words, good=0):
-        """That a solution is believed only where `verify` says that it is one: neither nothing nor another
-        word is enough.
-
-        So many calls of it are good, and the next one is not.
-        """
-        for said in ("", "okay", "not a solution"):
-            count = self.folder / "count"
-            count.write_text("x" * (good + 1), encoding="ascii")
-            says = f'read count < {count}; echo "${{count#x}}" > {count}; [ "$count" != x ] || {{ printf "{said}"; exit 0; }}'
-            program = self.file(
-                "program", f'#!/bin/sh\nif [ "$1" = verify ]; then {says}; fi\nexec {common.PROGRAM} "$@"\n'
-            )
-            os.chmod(program, 0o755)
-            status, out, err = self.run_script(*words, PGBOARD=program)
-            self.assertEqual((status, out), (4, ""), said)
-            self.assertRegex(
-                err, rf"\A({self.name}: size.*\n)?\w+: (what|this|the machine).*: {said or 'no'}"
-            )
-
     def check_damaged(self, call, text):
         """That the script answers or refuses what a damaged text has, and fails in no other way."""
+        refused = 0
         for seed in range(200):
-            given = damaged(random.Random(seed), text)
+            given = random_games.damaged(random.Random(seed), text.encode())
             with self.subTest(seed=seed, given=given):
                 try:
                     self.assertIn(call(given)[0], (0, 1))
-                except self.script.Refused as refused:
-                    self.assertEqual((refused.status, str(refused).isprintable()), (3, True), refused)
+                except self.script.Refused as fault:
+                    self.assertEqual((fault.status, str(fault).isprintable()), (3, True), fault)
+                    refused += 1
+        self.assertGreater(refused, 40)
 
     def check_benchmark(self, size):
         """That bench/ gets a game of about so many vertices, in which each player wins some."""
@@ -185,27 +144,6 @@ class Use:
         self.assertAlmostEqual(len(lines) / size, 1, delta=0.25)
         self.assertEqual({line.split()[1] for line in lines}, {"0;", "1;"})
 
-    def test_help(self):
-        """The help shows an example of a script, and has 80 columns also where the terminal has more."""
-        status, out, err = self.run_script("--help", COLUMNS="200")
-        self.assertEqual((status, err), (0, ""))
-        self.assertIn(
-            f"usage: python3 -m pgboard {self.name} " if self.first else f"\n  examples/{self.name}.py ", out
-        )
-        self.assertLessEqual(max(map(len, out.splitlines())), 80)
-
-
-def damaged(chance, text):
-    """A text in which something is left out, doubled or put in elsewhere."""
-    for _ in range(chance.randint(1, 3)):
-        first, last = sorted(chance.randint(0, len(text)) for _ in range(2))
-        last = min(last, first + chance.randint(0, 9))
-        piece = chance.choice(
-            ["", text[first:last] * 2, chance.choice(text), chance.choice('()[]{}<>"!&|,;:.01 9\n\x00\u00e9')]
-        )
-        text = text[:first] + piece + text[last:]
-    return text
-
 
 def graph_of(text):
     """The vertices and edges of Graphviz text, with what stands between their brackets; vertices are what
@@ -213,16 +151,10 @@ def graph_of(text):
     """
     rows = re.findall(r"(?ms)^    (\w+)(?: -> (\w+))?(?: \[(.*?)\])?;$", text)
     rows = [row for row in rows if row[0] not in ("graph", "node", "edge")]
-    vertices, edges = {row[0]: row[2] for row in rows if not row[1]}, {
-        row[:2]: row[2] for row in rows if row[1]
-    }
+    vertices = {row[0]: row[2] for row in rows if not row[1]}
+    edges = {row[:2]: row[2] for row in rows if row[1]}
     assert len(vertices) + len(edges) == len(rows), "nothing is drawn twice"
     return vertices, edges
-
-
-def colour_of(style):
-    """Whose colours a vertex has: Even's, Odd's, or None where it is white."""
-    return {"#fde68a": 0, "#2563a8": 1, "white": None}[re.search('fillcolor="([^"]*)"', style)[1]]
 
 
 def check_kept(case, name, made):
@@ -240,33 +172,12 @@ def check_kept(case, name, made):
         case.assertEqual(made, kept)
 
 
-def plays(game, player):
-    """The positional strategies of a player: a successor, or None at a dead end, for each vertex of his."""
-    own = sorted(id for id in game if game[id][1] == player)
-    for choices in itertools.product(*(sorted(game[id][2]) or [None] for id in own)):
-        yield dict(zip(own, choices))
-
-
-def winner(game, moves, id, least, odd):
-    """Who wins the play of these moves: the owner of a dead end loses, else the priority that decides on the
-    cycle says.
-    """
-    seen = []
-    while id not in seen:
-        seen.append(id)
-        if moves[id] is None:
-            return 1 - game[id][1]
-        id = moves[id]
-    cycle = [game[it][0] for it in seen[seen.index(id) :]]
-    return ((min if least else max)(cycle) + odd) % 2
-
-
 def even_wins(game, least=False, odd=False):
-    """The vertices from which some strategy of player 0 wins against all of player 1."""
-    won = set()
-    for mine in plays(game, 0):
-        left = set(game) - won
-        for other in plays(game, 1):
-            left = {id for id in left if winner(game, {**mine, **other}, id, least, odd) == 0}
-        won |= left
-    return won
+    """The vertices that player 0 wins, where the least priority or odd ones may decide, and who is stuck
+    loses.
+    """
+    rows = {}
+    for id, (priority, owner, successors) in game.items():
+        priority = (1000 - priority if least else priority) + odd
+        rows[id] = (priority, owner, successors) if successors else (1 - owner, owner, {id})
+    return {id for id, winner in plain.recursion(rows)[0].items() if winner == 0}

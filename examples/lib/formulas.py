@@ -8,7 +8,7 @@ fixed points. An action is compared with the label's text.
 import re
 
 from pgboard.command import shown
-from pgboard.command.texts import Tokens
+from pgboard.command.texts import Tokens, kinds
 
 OPERATORS = ("=>", "||", "&&")
 VALUES = ("true", "false")
@@ -45,8 +45,8 @@ class Parser(Tokens):
     labels, true and false.
     """
 
-    pattern = re.compile(
-        r"""(?P<blank>\s+)|(?P<sign>&&|\|\||=>|[!.()<>\[\]*+|])|(?P<label>"[^"]*")|(?P<word>[A-Za-z_0-9][A-Za-z_0-9']*)"""
+    pattern = kinds(
+        blank=r"\s+", sign=r"&&|\|\||=>|[!.()<>\[\]*+|]", label='"[^"]*"', word="[A-Za-z_0-9][A-Za-z_0-9']*"
     )
     same = {"and": "&&", "or": "||", "not": "!"}
 
@@ -67,7 +67,7 @@ class Parser(Tokens):
 
     def whole(self):
         tree = self.formula()
-        return self.expect("the end of the formula") if self.left else tree
+        return self.wants("the end of the formula") if self.left else tree
 
     def formula(self):
         return self.chain(OPERATORS, self.unary, lambda *tree: tree)
@@ -94,7 +94,7 @@ class Parser(Tokens):
         return "variable", at, self.variable("a formula")
 
     def word(self, wanted):
-        return self.take("a word") if self.next_is("a word") else self.expect(wanted)
+        return self.take("a word") if self.next_is("a word") else self.wants(wanted)
 
     def variable(self, wanted):
         name = self.word(wanted).text

@@ -1,7 +1,5 @@
 /* Goes through the calls of include/pgboard.h: each answer, what is reported beside it, and that nothing else is written.
- * With the word `games`, reads games as numbers from standard input (n and m, owners, priorities, starts, targets), and
- * writes for each the winners and the choices that it got. The last line is 'N passed, M failed'. Linked with -Wl,--wrap=malloc,--wrap=realloc, so that memory can
- * be refused. */
+ * The last line is 'N passed, M failed'. Linked with -Wl,--wrap=malloc,--wrap=realloc, so that memory can be refused. */
 #include <stdio.h>
 #include <stdlib.h>
 #include <string.h>
@@ -643,46 +641,12 @@ static void refuses_large_games(void)
     EXPECT(large(vertices, 1) == PGBOARD_OK);
 }
 
-/* Reads so many numbers into new memory. */
-static uint32_t *numbers(size_t count)
-{
-    uint32_t *found = calloc(count + 1, sizeof *found);
-    for (size_t k = 0; found && k < count; k++)
-        if (scanf("%u", &found[k]) != 1)
-            exit(2);
-    return found;
-}
-
-static int games(void)
-{
-    unsigned n, m;
-    while (scanf("%u %u", &n, &m) == 2) {
-        uint32_t *wide = numbers(n), *priorities = numbers(n), *starts = numbers(n + 1), *targets = numbers(m);
-        uint32_t *choices = calloc(n, sizeof *choices);
-        uint8_t *owners = calloc(n, 1), *winners = calloc(n, 1);
-        if (!wide || !priorities || !starts || !targets || !choices || !owners || !winners)
-            return 2;
-        for (unsigned v = 0; v < n; v++)
-            owners[v] = (uint8_t)wide[v];
-        struct pgboard_game it = {.size = sizeof it, .owners = owners, .owners_len = n, .priorities = priorities, .priorities_len = n,
-                                  .starts = starts, .starts_len = n + 1, .targets = targets, .targets_len = m};
-        struct pgboard_solution solution = {.size = sizeof solution, .winners = winners, .winners_len = n, .choices = choices, .choices_len = n};
-        struct pgboard_results results = {.size = sizeof results, .winners = winners, .winners_len = n, .choices = choices, .choices_len = n};
-        uint32_t answer = pgboard_solve(&it, &results, &report);
-        uint32_t holds = pgboard_check(&it, &solution, &report);
-        printf("%u %u", answer, holds);
-        for (unsigned v = 0; v < n; v++)
-            printf(" %u:%ld", winners[v], choices[v] == PGBOARD_NO_CHOICE ? -1L : (long)choices[v]);
-        printf("\n");
-        free(wide), free(priorities), free(starts), free(targets), free(choices), free(owners), free(winners);
-    }
-    return 0;
-}
-
 /* The version is the header's, and each answer has a text of its own. */
 static void tells_versions_and_texts(void)
 {
-    EXPECT(pgboard_version() == PGBOARD_VERSION);
+    char version[32];
+    snprintf(version, sizeof version, "%d.%d.%d", PGBOARD_VERSION_MAJOR, PGBOARD_VERSION_MINOR, PGBOARD_VERSION_PATCH);
+    EXPECT(pgboard_version() == PGBOARD_VERSION && strcmp(pgboard_version_string(), version) == 0);
     const char *other = pgboard_strerror(99);
     for (uint32_t answer = 0; answer < 99; answer++)
         for (uint32_t before = 0; before < answer; before++)
@@ -690,10 +654,8 @@ static void tells_versions_and_texts(void)
                    strcmp(pgboard_strerror(answer), pgboard_strerror(before)) != 0);
 }
 
-int main(int argc, char **argv)
+int main(void)
 {
-    if (argc > 1 && strcmp(argv[1], "games") == 0)
-        return games();
     solves();
     refuses_arrays();
     refuses_results();

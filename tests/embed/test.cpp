@@ -1,5 +1,4 @@
-// Goes through the calls of include/pgboard.hpp. With the word `games`, reads games as numbers from standard input (n and m, owners,
-// priorities, starts, targets), and writes for each the winners and the choices that it got. The last line is 'N passed, M failed'.
+// Goes through the calls of include/pgboard.hpp. The last line is 'N passed, M failed'.
 #include <array>
 #include <atomic>
 #include <cstdlib>
@@ -298,33 +297,8 @@ static void sizes_and_memory()
     EXPECT(has_its_report());
 }
 
-static int games()
+int main()
 {
-    unsigned n, m;
-    const auto read = [](auto &into) {
-        for (auto &it : into) {
-            unsigned number;
-            std::cin >> number;
-            it = static_cast<std::remove_reference_t<decltype(it)>>(number);
-        }
-    };
-    while (std::cin >> n >> m) {
-        pgboard::game game{std::vector<std::uint8_t>(n), std::vector<std::uint32_t>(n), std::vector<std::uint32_t>(n + 1), std::vector<std::uint32_t>(m)};
-        read(game.owners), read(game.priorities), read(game.starts), read(game.targets);
-        const auto found = pgboard::solve(game);
-        pgboard::check(game, found);
-        std::cout << "0 0";
-        for (unsigned v = 0; v < n; v++)
-            std::cout << ' ' << unsigned{found.winners[v]} << ':' << (found.choices[v] == PGBOARD_NO_CHOICE ? -1L : long{found.choices[v]});
-        std::cout << '\n';
-    }
-    return 0;
-}
-
-int main(int argc, char **argv)
-{
-    if (argc > 1 && std::strcmp(argv[1], "games") == 0)
-        return games();
     const std::string text = "9 1 1 9; 3 2 0 3, 9 \"a name\";";
     const auto found = pgboard::solve(two);
     EXPECT((found.winners == std::vector<std::uint8_t>{0, 1}) && (found.choices == std::vector<std::uint32_t>{0, 1}));

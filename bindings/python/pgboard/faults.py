@@ -233,7 +233,7 @@ class Cancelled(Fault):
     words = "the call was cancelled"
 
 
-# The exception of each answer of include/pgboard.h, as tests/faults.py makes it. Four are never handed on: the size of
+# The exception of each answer of include/pgboard.h, as tools/faults makes it. Four are never handed on: the size of
 # a struct (9), a board that is open (70) and the number of an entry (72), which are right here, and a buffer that is too small (50), which
 # is asked for again.
 FAULTS: Dict[int, Type[Fault]] = {

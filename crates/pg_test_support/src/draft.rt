@@ -3,6 +3,7 @@
 ghost use Rattle.std.specs.Prelude.{All};
 ghost use Rattle.pg_game.specs.Specification.{AreNumbers};
 
+use crate::sets::vertices_of;
 use pg_game::{Game, GameFault, Memory, Player, Sequence, Spec};
 use std::alloc::Global;
 
@@ -15,6 +16,9 @@ pub type Row = (u32, Option<u32>);
 
 /// The priority, the owner and the successors of a vertex.
 pub type Vertex<'a> = (u32, Player, &'a [u32]);
+
+/// The same with a set of successors; a game is a slice of them.
+pub type Plain = (u32, Player, u32);
 
 /// An unfinished game, whose identifiers are 0, 1 and so on.
 #[derive(Drop)]
@@ -65,6 +69,21 @@ pub fn game_of(alloc: Global, rows: &[Vertex]) -> Result<Game, GameFault> {
         draft.add(alloc, *priority, *owner, *successors)?;
     }
     draft.game(alloc)
+}
+
+/// The game of these vertices, whose successors are sets.
+pub fn game_of_sets(alloc: Global, rows: &[Plain]) -> Result<Game, GameFault> {
+    let mut draft = Draft::new(alloc);
+    for (priority, owner, set) in rows {
+        let successors = vertices_of(alloc, *set)?;
+        draft.add(alloc, *priority, *owner, successors.as_slice())?;
+    }
+    draft.game(alloc)
+}
+
+/// How many vertices a game of sets has, which are below 32.
+pub fn size_of(game: &[Plain]) -> u32 {
+    game.len().min(32) as u32
 }
 
 /// This many vertices of Even's, of priority 0, each of which is its own and only successor.

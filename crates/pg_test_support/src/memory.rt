@@ -1,5 +1,5 @@
-//! How a test ends where memory is refused to what it needs itself. `tests/refused_calls.py` of the repository knows the
-//! message.
+//! How a test ends where memory is refused to what it needs itself. `tests/refused_calls.py` of the
+//! repository knows the message.
 
 use std::test::Fail;
 

@@ -22,7 +22,7 @@ pub use Rattle.pg_board.proofs.Common.{state_of, sum_by_push, take-append-drop, 
 pub use Rattle.pg_board.specs.Finish.{AreOfCaller, IsLater}
 pub use Rattle.pg_board.specs.declared.journal.Refusal.{Refusal}
 pub use Rattle.pg_workers.specs.Counting.{once_below, times}
-pub use Rattle.pg_workers.specs.Known.{IsSolveFault, known_rows}
+pub use Rattle.pg_workers.specs.KnownRegions.{IsSolveFault, known_rows}
 pub use Rattle.pg_workers.specs.Outcomes.{IsOutcome}
 pub use Rattle.pg_workers.specs.Report.{AddsUp, AreCounts, AreNumbered, IsDrawnRow, IsInOrder, IsReport, blank_row, settled_in}
 pub use Rattle.pg_workers.specs.Tickets.{AreDrawn, HeldTicket, fresh}
@@ -30,6 +30,6 @@ pub use Rattle.pg_board.specs.Work.{total_of}
 pub use Rattle.pg_workers.specs.declared.known.SolveFault.{SolveFault}
 pub use Rattle.pg_workers.specs.declared.report.ReportRow.{ReportRow}
 pub use Rattle.pg_workers.specs.private.Drawing.{AtSeat, Draws, IsDrawer, IsDrawn, both_drawers, drawer, one_less, one_ticket, spent_drawer}
-pub use Rattle.pg_workers.specs.private.Known.{HasSettled, IsKnownFault}
+pub use Rattle.pg_workers.specs.private.KnownPosts.{HasSettled, IsKnownFault}
 pub use Rattle.pg_workers.specs.private.Report.{AreBlank, AreCounted, AreIdle, AreNotedRows, AreOfPrefix, HasPlaces, answered, how_many_of_job, jobs_in, noted}
 pub use Rattle.pg_workers.specs.private.Report.{rows_in}

@@ -44,8 +44,8 @@ use Rattle.pg_board.proofs.OpeningState.{none_distinct, no_region, attracts_none
 use Rattle.pg_board.proofs.PushedEntry.{IsAdded, neither_open, once_rows, ours_named, claims_state}
 use Rattle.pg_board.proofs.Places.{named_at}
 use Rattle.pg_board.proofs.RestIsGood.{vertices, in_rest, named_rest}
-use Rattle.pg_workers.specs.Known.{IsKnownRegion, KeepsKnown, known_rows, IsAttractedToKnown, HasCount, HasNone, IsBefore, IsSolveFault}
-use Rattle.pg_workers.specs.private.Known.{SettlesKnown, IsKnownFault, HasKnown, fault_of}
+use Rattle.pg_workers.specs.KnownRegions.{IsKnownRegion, KeepsKnown, known_rows, IsAttractedToKnown, HasCount, HasNone, IsBefore, IsSolveFault}
+use Rattle.pg_workers.specs.private.KnownPosts.{SettlesKnown, IsKnownFault, HasKnown, fault_of}
 use Rattle.pg_board.specs.Finish.{AreOfCaller, IsLater}
 use Rattle.pg_workers.specs.declared.known.SolveFault.{SolveFault}
 use Rattle.pg_board.proofs.OwnEntries.{both_of_caller, none_later, one_later, continued, keeps_state}

@@ -2,6 +2,6 @@ pub mod Counting
 pub mod Report
 pub mod Tickets
 pub mod TicketFields
-pub mod Known
+pub mod KnownRegions
 pub mod Outcomes
 pub mod private

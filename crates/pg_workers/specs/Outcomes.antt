@@ -7,7 +7,7 @@ use Rattle.pg_text.specs.Solution.{IsExactSolution}
 use Rattle.pg_board.specs.Journal.{state_of, IsLawful}
 use Rattle.pg_board.specs.Full.{IsFull, AreStateRows}
 use Rattle.pg_workers.specs.declared.solve.Outcome.{Outcome}
-use Rattle.pg_workers.specs.Known.{IsKnownRegion, IsKnownSize}
+use Rattle.pg_workers.specs.KnownRegions.{IsKnownRegion, IsKnownSize}
 use Rattle.pg_workers.specs.Report.{IsInOrder, IsReport, AddsUp}
 
 -- each known set is a region, the entries are a lawful journal that settles every vertex, the solution is its state and exact,

@@ -3,4 +3,4 @@ pub mod Drawing
 pub mod Report
 pub mod Tickets
 pub mod TicketFields
-pub mod Known
+pub mod KnownPosts

@@ -1,28 +1,27 @@
 //! Solving in the calling thread: what is known, and then a board that settles all the rest itself (`Board::finish`). A static
 //! library solves so, since it may start no thread.
 
-ghost use Rattle.std.specs.Prelude.{◌≡◌, ◌≤◌, length, slice_get, IfOk, IfErr, IfSome, IsNone, IsSome, Some, Option, ℕ};
+ghost use Rattle.std.specs.Prelude.{◌≡◌, slice_get, IfOk, IfErr, IfSome, IsNone, IsSome, Some, Option, ℕ};
 ghost use Rattle.pg_game.specs.declared.player.Player.{Player};
 ghost use Rattle.pg_board.specs.Journal.{state_of};
 ghost use Rattle.pg_text.specs.Solution.{IsExactSolution};
-ghost use Rattle.pg_workers.specs.Known.{IsSolveFault, IsKnownRegion, KeepsKnown};
+ghost use Rattle.pg_workers.specs.KnownRegions.{IsSolveFault, IsKnownRegion, KeepsKnown};
 
 use crate::known::{KnownOf, SolveFault, board_with};
 use pg_board::Board;
-use pg_game::{Game, Memory};
-use pg_text::{Known, Solution};
+use pg_game::Memory;
+use pg_text::Solution;
 use std::alloc::Global;
 
 /// The same as `solve_game` in the calling thread: it starts no thread and waits for nothing. It posts Even's known set and
 /// then Odd's, and solves the board. What is known keeps its winners and choices. The errors are those of `solve_game`.
-pub fn solve_alone(alloc: Global, game: &Game, known: &Known) -> Result<Solution, SolveFault>
-    requires { length known.now.rows ≤ length game.now }
-    ensures exact { IfOk result (λ s. IsExactSolution game.now s.rows) }
-    ensures regions { IfOk result (λ s. (p : Player) → IsKnownRegion game.now known.now.rows p) }
-    ensures kept { IfOk result (λ s. KeepsKnown game.now known.now.rows (λ v. slice_get s.rows v)) }
-    ensures fault { IfErr result (λ e. IsSolveFault game.now known.now.rows e) }
+pub fn solve_alone(alloc: Global, of: &KnownOf<'_>) -> Result<Solution, SolveFault>
+    ensures exact { IfOk result (λ s. IsExactSolution of.now.game.now s.rows) }
+    ensures regions { IfOk result (λ s. (p : Player) → IsKnownRegion of.now.game.now of.now.known.now.rows p) }
+    ensures kept { IfOk result (λ s. KeepsKnown of.now.game.now of.now.known.now.rows (λ v. slice_get s.rows v)) }
+    ensures fault { IfErr result (λ e. IsSolveFault of.now.game.now of.now.known.now.rows e) }
 {
-    let board = board_with(alloc, &KnownOf { game, known })?;
+    let board = board_with(alloc, of)?;
     match solve_board(alloc, board, None)? {
         Some(solution) => Ok(solution),
         None => unreachable!(),

@@ -1,8 +1,8 @@
 //! What the calling thread posts before a worker starts, as worker 0: what is known of the game, Even's claim and then Odd's.
 
 ghost use Rattle.std.specs.Prelude.{◌≡◌, ◌≤◌, length, IfOk, IfErr, OnOk};
-ghost use Rattle.pg_workers.specs.Known.{known_rows, HasNone, IsSolveFault};
-ghost use Rattle.pg_workers.specs.private.Known.{fault_of, HasKnown, IsKnownFault, SettlesKnown};
+ghost use Rattle.pg_workers.specs.KnownRegions.{known_rows, HasNone, IsSolveFault};
+ghost use Rattle.pg_workers.specs.private.KnownPosts.{fault_of, HasKnown, IsKnownFault, SettlesKnown};
 
 use pg_board::{Board, Refusal};
 use pg_dominion::{Claim, own_choice};
@@ -74,7 +74,7 @@ fn post_known(
     }
     match board.post(alloc, 0, &claim) {
         Ok(_) => Ok(()),
-        Err(refusal) => Err(refused(player, refusal)),
+        Err(refusal) => Err(solve_fault(player, refusal)),
     }
 }
 
@@ -101,7 +101,7 @@ fn known_claim(alloc: Global, of: &KnownOf<'_>, player: Player) -> Result<Claim,
 }
 
 /// The fault of a run after a refused post of the player's known set.
-fn refused(player: Player, refusal: Refusal) -> SolveFault
+fn solve_fault(player: Player, refusal: Refusal) -> SolveFault
     ensures { result ≡ fault_of player refusal }
 {
     match refusal {

@@ -5,8 +5,8 @@ ghost use Rattle.std.specs.Prelude.{◌≡◌, ◌+◌, ◌≤◌, ℕ, IfOk, If
 ghost use Rattle.pg_text.specs.Known.{KnownRows};
 ghost use Rattle.pg_workers.specs.Outcomes.{IsOutcome};
 ghost use Rattle.pg_board.specs.Journal.{number_settled};
-ghost use Rattle.pg_workers.specs.Known.{IsSolveFault};
-ghost use Rattle.pg_workers.specs.private.Known.{HasSettled};
+ghost use Rattle.pg_workers.specs.KnownRegions.{IsSolveFault};
+ghost use Rattle.pg_workers.specs.private.KnownPosts.{HasSettled};
 ghost use Rattle.pg_workers.specs.private.Report.{KeepsReport};
 ghost use Rattle.pg_workers.specs.Report.{IsInOrder, IsReport, settled_in};
 ghost use Rattle.pg_workers.specs.Tickets.{fresh};
@@ -87,14 +87,16 @@ fn solve_on<L: Ledger + Send + Sync, G: Gate, F: Finder, R: Threads + Wait + Syn
     let first = shares.remove(0);
     let total = setup.options.total(setup.start.game.len());
     let (jobs, tickets) = Jobs::open(alloc, total, workers)?;
-    let (board, report) = run::<L, Brand, G, F, R>(setup, office, first, shares, jobs, tickets)?;
-    let (board, report) = on_own_game(alloc, setup.start, board, report)?;
-    Ok(outcome_of(alloc, board, report)?)
+    let (closed, report) = run_workers::<L, Brand, G, F, R>(
+        setup, office, first, shares, jobs, tickets,
+    )?;
+    let (own, report) = on_own_game(alloc, setup.start, closed, report)?;
+    Ok(outcome_of(alloc, own, report)?)
 }
 
 /// The workers' part, on a new office and new jobs: the closed board, and the results of each job. The first share is no
 /// worker's.
-fn run<
+fn run_workers<
     'g,
     L: Ledger + Send + Sync,
     J: RunJobs + Send + Sync,

@@ -25,7 +25,7 @@ pub use Rattle.pg_board.specs.declared.journal.Refusal.{Refusal}
 pub use Rattle.pg_workers.proofs.Common.{AddsUp, ClaimRows, Graph, IsExactSolution, IsLawful, IsSolveFault, Journal, KnownRows, Player, VertexSet}
 pub use Rattle.pg_workers.proofs.Common.{common_steps, false_from_ne_true, known_choice, known_of, known_rows, number_settled, own_choices, rows_below}
 pub use Rattle.pg_workers.proofs.Common.{state_of, take-append-drop, take-append-le}
-pub use Rattle.pg_workers.specs.Known.{HasCount, IsAttractedToKnown, IsKnownRegion, IsKnownSize}
+pub use Rattle.pg_workers.specs.KnownRegions.{HasCount, IsAttractedToKnown, IsKnownRegion, IsKnownSize}
 pub use Rattle.pg_workers.specs.declared.report.ReportRow.{ReportRow}
 pub use Rattle.pgboard.specs.Device.{AppendsPrefix}
 pub use Rattle.pgboard.specs.Joined.{IsJudged, JudgingFailed, game_part, solution_part}

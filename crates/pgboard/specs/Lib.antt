@@ -1,7 +1,7 @@
 pub mod Device
 pub mod Joined
 pub mod Run
-pub mod Known
+pub mod KnownSource
 pub mod Refused
 pub mod Status
 pub mod Trace

@@ -10,7 +10,7 @@ use Rattle.pg_dominion.specs.declared.claim.ClaimFault.TheVariants.{Shape, Cycle
 use Rattle.pg_board.specs.declared.journal.Refusal.{Refusal}
 use Rattle.pg_board.specs.declared.journal.Refusal.TheVariants as refusal
 use Rattle.pg_workers.specs.declared.known.SolveFault.TheVariants as solving
-use Rattle.pg_workers.specs.Known.{known_rows, IsSolveFault}
+use Rattle.pg_workers.specs.KnownRegions.{known_rows, IsSolveFault}
 use Rattle.pgboard.specs.declared.fault.KnownFault.{KnownFault}
 use Rattle.pgboard.specs.declared.fault.KnownFault.TheVariants as known_fault
 use Rattle.pgboard.specs.declared.fault.RunFault.{RunFault}

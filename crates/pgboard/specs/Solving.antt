@@ -9,10 +9,10 @@ use Rattle.pg_text.specs.Winners.{IsWinnersText}
 use Rattle.pg_board.specs.Journal.{Journal, state_of, IsLawful}
 use Rattle.pg_board.specs.Full.{IsFull}
 use Rattle.pg_workers.specs.declared.report.ReportRow.{ReportRow}
-use Rattle.pg_workers.specs.Known.{IsKnownRegion}
+use Rattle.pg_workers.specs.KnownRegions.{IsKnownRegion}
 use Rattle.pg_workers.specs.Report.{IsInOrder, IsReport, AddsUp}
 use Rattle.pg_board.specs.Work.{total_of}
-use Rattle.pgboard.specs.Known.{IsReadKnown}
+use Rattle.pgboard.specs.KnownSource.{IsReadKnown}
 use Rattle.pgboard.specs.Run.{IsReadGame}
 use Rattle.pgboard.specs.Trace.{trace_text}
 

@@ -34,7 +34,7 @@ pub fn asked(alloc: Global, words: &[&str]) -> Result<Asked, AskedFault>
     let command = command(alloc)?;
     match command.try_get_matches_from(words) {
         Ok(matches) => Asked::from_matches(alloc, &matches),
-        Err(error) => refused(alloc, &error),
+        Err(error) => help_or_fault(alloc, &error),
     }
 }
 
@@ -42,17 +42,17 @@ pub fn asked(alloc: Global, words: &[&str]) -> Result<Asked, AskedFault>
 fn command<'a>(alloc: Global) -> Result<Command<'a>, AllocError>
     ensures { IfOk result (λ command. app_of command ≡ program) }
 {
-    let command = Command::new(alloc, "pgboard")
+    let alone = Command::new(alloc, "pgboard")
         .no_binary_name(true)
         .version(VERSION)
         .about(ABOUT)
         .long_about(LONG_ABOUT)
         .after_help(STATUSES)
         .bin_name("pgboard")?;
-    let command = with(command, solve_command(alloc))?;
-    let command = with(command, trace_command(alloc))?;
-    let command = with(command, verify_command(alloc))?;
-    with(command, tidy_command(alloc))
+    let with_solve = with(alone, solve_command(alloc))?;
+    let with_trace = with(with_solve, trace_command(alloc))?;
+    let with_verify = with(with_trace, verify_command(alloc))?;
+    with(with_verify, tidy_command(alloc))
 }
 
 /// The kit's line is what `rt version` prints, without the letter of the release. The last words hold the place of what the
@@ -253,8 +253,8 @@ the start line are left out. Without GAME it reads standard input.{n}{n}\
 Example:{n}  \
 zcat game.pg.gz | pgboard tidy > tidy.pg";
 
-/// A text to print, where one was asked for, or a refusal.
-fn refused(alloc: Global, error: &Error) -> Result<Asked, AskedFault>
+/// The text of help or of the version, where one was asked for, or else why the words are refused.
+fn help_or_fault(alloc: Global, error: &Error) -> Result<Asked, AskedFault>
     ensures text { IfOk result IsHelp }
     ensures kind { IfOk result (λ _. (kind_of error.now ≡ ErrorKind.DisplayHelp) ⊎ (kind_of error.now ≡ ErrorKind.DisplayVersion)) }
     ensures helped { (kind_of error.now ≡ ErrorKind.DisplayHelp) ⊎ (kind_of error.now ≡ ErrorKind.DisplayVersion)

@@ -4,7 +4,7 @@
 ghost use Rattle.std.specs.Prelude.{◌≡◌, ◌≤◌, ℕ, List, [], IfOk, IfErr, length};
 ghost use Rattle.pg_game.specs.Graph.{Graph};
 ghost use Rattle.pg_text.specs.Reading.{max_text, IsTextOf, IsSolutionFaultOf};
-ghost use Rattle.pgboard.specs.Known.{IsReadKnown};
+ghost use Rattle.pgboard.specs.KnownSource.{IsReadKnown};
 ghost use Rattle.pgboard.specs.Refused.{IsNotKnown};
 ghost use Rattle.pgboard.specs.Run.{IsReadGame, IsNoGame, IsNoSolution, Reads};
 ghost use Rattle.pgboard.specs.private.Run.{IsRefusedGame, IsRefusedSolution, IsReadSolution};

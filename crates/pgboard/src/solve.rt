@@ -5,10 +5,10 @@ ghost use Rattle.std.specs.Prelude.{◌≡◌, ◌≤◌, ◌⊎◌, [], length,
 ghost use Rattle.pg_game.specs.declared.player.Player.{Player};
 ghost use Rattle.pg_game.specs.Graph.{Graph};
 ghost use Rattle.pg_board.specs.Work.{total_of};
-ghost use Rattle.pg_workers.specs.Known.{known_rows, IsKnownRegion, IsSolveFault};
+ghost use Rattle.pg_workers.specs.KnownRegions.{known_rows, IsKnownRegion, IsSolveFault};
 ghost use Rattle.pg_workers.specs.Outcomes.{IsOutcome};
 ghost use Rattle.pgboard.specs.Device.{HasFailed};
-ghost use Rattle.pgboard.specs.Known.{left_in, IfGiven, OnGiven};
+ghost use Rattle.pgboard.specs.KnownSource.{left_in, IfGiven, OnGiven};
 ghost use Rattle.pgboard.specs.Refused.{IsNotKnown, Names};
 ghost use Rattle.pgboard.specs.private.Refused.{IsUnsolved};
 ghost use Rattle.pgboard.specs.Run.{IsReadGame, IsNoGame, Reads, ReadsInTurn, Writes};
@@ -115,7 +115,8 @@ pub fn run_trace<I: Source, O: Sink, R: Threads + Wait + Sync>(
     };
     let outcome = solver.outcome(&start)?;
     let entries = outcome.entries.as_slice();
-    let text = write_trace(alloc, &game, entries, outcome.report.as_slice())?;
+    let report = outcome.report.as_slice();
+    let text = write_trace(alloc, &game, entries, report)?;
     write_all(text.as_slice(), out)
 }
 

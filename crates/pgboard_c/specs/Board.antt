@@ -20,7 +20,7 @@ use Rattle.pgboard_c.specs.declared.fault.Fault.{Fault}
 use Rattle.pgboard_c.specs.declared.fault.Fault.TheVariants as fault
 use Rattle.pgboard_c.specs.Arrays.{ResultLists, result_lists, AreResults, no_choice, choice_number, IsSameStruct, AreUnchanged}
 use Rattle.pgboard_c.specs.Answers.{HaveSize, AreUnfitResults}
-use Rattle.pgboard_c.specs.Known.{no_winner}
+use Rattle.pgboard_c.specs.KnownArrays.{no_winner}
 
 -- the session of a handle
 abbrev pub session_in : Handle → Option SessionRecord

@@ -1,7 +1,7 @@
 pub mod Arrays
 pub mod Numbers
 pub mod Answers
-pub mod Known
+pub mod KnownArrays
 pub mod Texts
 pub mod private
 pub mod Board

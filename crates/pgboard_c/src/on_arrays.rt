@@ -4,17 +4,17 @@ ghost use Rattle.std.specs.Prelude.{None, Some};
 ghost use Rattle.pgboard_c.specs.Numbers.{Returns};
 ghost use Rattle.pgboard_c.specs.Arrays.{game_lists, solution_lists};
 ghost use Rattle.pgboard_c.specs.Answers.{IsSolveOutcome, IsCheckOutcome};
-ghost use Rattle.pgboard_c.specs.Known.{IsSolveFromOutcome};
+ghost use Rattle.pgboard_c.specs.KnownArrays.{IsSolveFromOutcome};
 
 use crate::arrays::{
     GameArrays, Results, SolutionArrays, first_bad_winner, read_results, write_results,
 };
 use crate::fault::{Fault, Report, reported};
-use crate::known::{KnownOf, first_bad_known_winner, read_known};
+use crate::known::{first_bad_known_winner, known_solution, read_known};
 use pg_board::Board;
 use pg_dominion::{SolutionFault, check_forward_solution};
 use pg_game::Game;
-use pg_workers::solve_board;
+use pg_workers::{KnownOf, solve_board};
 use std::alloc::Global;
 
 /// Solves the game of the arrays: writes each vertex's winner, and his choice if he owns the vertex. The answer is 0, and
@@ -116,7 +116,7 @@ fn solve_known(
         game: &game,
         known: &known,
     };
-    let solution = of_game.solution(alloc)?;
+    let solution = known_solution(alloc, &of_game)?;
     write_results(&solution, results.winners, results.choices);
     Ok(())
 }

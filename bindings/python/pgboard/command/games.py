@@ -9,43 +9,25 @@ that its owner loses gets an edge to itself.
 
 import re
 
-from . import TEXT, Refused, called, line_of, printable, shown
-from .texts import text_of
+from . import TEXT, WORDS, Refused, called, line_of, printable
+from .texts import Statement, Text, text_of
 
 MOST_VERTICES, MOST_EDGES, MOST = 1_048_576, 16_777_216, 2_147_483_647
 PLAYERS = ("Even", "Odd")
-# the blanks that the program reads
-BLANK = r"[ \t\r\n]"
 # (before a semicolon the name ends, and its last letter is a backslash)
-NAME = rf'"(?:[^"]|(?<=\\)"(?!{BLANK}*;))*"'
-NUMBERS = rf"[0-9]+(?:{BLANK}*,{BLANK}*[0-9]+)*"
-VERTEX = re.compile(
-    rf"{BLANK}*(?:([0-9]+){BLANK}+([0-9]+){BLANK}+0*([01])(?:{BLANK}+({NUMBERS}))?(?:{BLANK}*({NAME}))?"
-    rf"|start{BLANK}*([0-9]+)|(min-?|max-?)?parity{BLANK}*[0-9]+){BLANK}*;"
+NAME = rf'"(?:[^"]|(?<=\\)"(?!{Statement.blank};))*"'
+NUMBERS = rf"[0-9]+(?:{Statement.blank},{Statement.blank}[0-9]+)*"
+NUMBER, PLAYER = "[0-9]+(?![0-9A-Za-z_])", "0*[01](?![0-9A-Za-z_])"
+REST = ("", NAME, True), ("a semicolon", ";", False)
+ID = "an identifier", NUMBER, False
+PRIORITY = "a priority", NUMBER, False
+VERTEX = Statement(ID, PRIORITY, ("an owner, 0 or 1", PLAYER, False), ("", NUMBERS, True), *REST)
+CHOICE = Statement(ID, ("a winner, 0 or 1", PLAYER, False), ("", NUMBER, True), *REST)
+START, HEADER, SOLUTION_HEADER = (
+    Statement(("", f"(?:{word})(?![a-z])", False), ("a number", NUMBER, False), REST[1])
+    for word in ("start", "(?:min-?|max-?)?parity", "paritysol")
 )
-CHOICE = re.compile(
-    rf"{BLANK}*(?:([0-9]+){BLANK}+0*([01])(?:{BLANK}+([0-9]+))?(?:{BLANK}*{NAME})?"
-    rf"|paritysol{BLANK}*[0-9]+){BLANK}*;"
-)
-# what a statement is made of: by it a fault says what is expected where
-DIGITS, PLAYER, SEMICOLON = "[0-9]+(?![0-9A-Za-z_])", "0*[01](?![0-9A-Za-z_])", ("a semicolon", ";")
-VERTEX_PARTS = [
-    ("an identifier", DIGITS),
-    ("a priority", DIGITS),
-    ("an owner, 0 or 1", PLAYER),
-    ("", f"(?:{NUMBERS})?"),
-    ("", f"(?:{NAME})?"),
-    SEMICOLON,
-]
-CHOICE_PARTS = [
-    ("an identifier", DIGITS),
-    ("a winner, 0 or 1", PLAYER),
-    ("", f"(?:{DIGITS})?"),
-    ("", f"(?:{NAME})?"),
-    SEMICOLON,
-]
-HEAD_PARTS = [("", "[a-z-]+"), ("a number", DIGITS), SEMICOLON]
-TOKEN = re.compile(r"[0-9]+|[A-Za-z]+|\S|$")
+TOKEN = re.compile(r"[0-9]+|[A-Za-z]+|\S|$|\s")
 COMMENT = re.compile(rf"{NAME}|(?:#|//)[^\n]*")
 LISTING = re.compile(r"(?im)^\W*(?:player|won by|winner)\W*(0|1|even|odd)\b[^:\n]*:?(.*)$")
 LISTED = re.compile(r"(?i)(?:\s*with strategy:?)?([\s0-9{}\[\](),;>-]*)")
@@ -57,51 +39,31 @@ FOREIGN = {
 }
 
 
-def refuse(why, path, text, at):
-    raise Refused(why, place=(path, text, at))
-
-
-def statements(path, text, pattern, parts, word):
-    """The statements of a text, each of which has to match a pattern; what begins with the word or `start`
-    is no line of a vertex.
-    """
-    at, end = 0, len(text.rstrip(" \t\r\n"))
+def statements(text, *kinds):
+    """The kinds and matches of a text's statements; those of the first kind begin with no word."""
+    at, end = 0, len(text.text.rstrip(" \t\r\n"))
     while at < end:
-        found = pattern.match(text, at)
-        if not found:
-            refuse_statement(
-                path,
-                text,
-                at,
-                HEAD_PARTS if re.compile(rf"{BLANK}*(start|{word})(?![a-z])").match(text, at) else parts,
-            )
-        yield found
+        for kind in kinds:
+            found = kind.pattern.match(text.text, at)
+            if found:
+                break
+        else:
+            refuse_statement(text, at, *kinds)
+        yield kind, found
         at = found.end()
 
 
-def refuse_statement(path, text, at, parts):
+def refuse_statement(text, at, line, *headers):
     """Refuses the statement that begins at a place, for the first of its parts that is not there."""
-    begins = None
-    for what, part in parts:
-        at = re.compile(f"{BLANK}*").match(text, at).end()
-        begins = at if begins is None else begins
-        found = re.compile(part).match(text, at)
-        if not found:
-            break
-        at = found.end()
-    if begins == at and parts is VERTEX_PARTS:
-        for beginning, why in FOREIGN.items():
-            if re.compile(beginning).match(text, at):
-                refuse(why, path, text, at)
-    found = TOKEN.match(text, at) or re.compile(r"\s").match(text, at)
-    refuse(
-        "this quote is never closed"
-        if found[0] == '"'
-        else f"expected {what}, found {shown(found[0]) or 'the end of the text'}",
-        path,
-        text,
-        at,
-    )
+    missing = [it.missing(text.text, at) for it in headers]
+    at, begins, what = next((it for it in missing if it[0] > it[1]), line.missing(text.text, at))
+    for beginning, why in FOREIGN.items() if begins == at and line is VERTEX else ():
+        if re.compile(beginning).match(text.text, at):
+            text.refuse(why, at)
+    found = TOKEN.match(text.text, at)
+    if found[0] == '"':
+        text.refuse("this quote is never closed", at)
+    text.expect(what, at, found.end())
 
 
 def without_comments(text):
@@ -118,6 +80,7 @@ class Game:
 
     def __init__(self, rows, path="the game", text="", places=None, start=None):
         self.rows, self.path, self.text, self.places, self.start = rows, path, text, places or {}, start
+        self.source = Text(path, text)
         # what the text says of priorities, where it is not the game's, and which of them decides
         self.given, self.decides = {}, "greatest"
 
@@ -133,24 +96,18 @@ class Game:
         return game
 
     def read(self, least, odd, closes):
-        text, dead = without_comments(self.text), []
-        for found in statements(self.path, text, VERTEX, VERTEX_PARTS, "(min-?|max-?)?parity"):
-            id, priority, owner, to, name, start, kind = found.groups()
-            if id:
-                self.add(found, owner, to, name)
-                if not to:
-                    dead.append(int(id))
-            elif start:
+        text, dead = Text(self.path, without_comments(self.text)), []
+        for kind, found in statements(text, VERTEX, START, HEADER):
+            if kind is VERTEX:
+                id = self.add(found)
+                if not found[4]:
+                    dead.append(id)
+            elif kind is START:
                 self.set_start(found)
             elif self.rows:
-                refuse(
-                    "a header comes before all vertices",
-                    self.path,
-                    text,
-                    found.end() - len(found[0].lstrip(" \t\r\n")),
-                )
+                text.refuse("a header comes before all vertices", found.start(1))
             else:
-                least = least or (kind or "").startswith("min")
+                least = least or found[1].startswith("min")
         if dead and not closes:
             self.refuse(
                 dead[0], f"vertex {dead[0]} has no successor: with --dead-ends lose its owner loses there"
@@ -163,28 +120,26 @@ class Game:
             _, owner, _, name = self.rows[id]
             self.rows[id] = 1 - owner, owner, [id], name
 
-    def add(self, found, owner, to, name):
-        id, priority = number_of(self.path, self.text, found, 1), number_of(self.path, self.text, found, 2)
+    def add(self, found):
+        id, priority = number_of(self.source, found, 1), number_of(self.source, found, 2)
+        _, _, owner, to, name, _ = found.groups()
         # (a short list has no number that is too large)
         targets = dict.fromkeys(map(int, to.split(",")) if to and len(to) < 10 else self.numbers(found, to))
         if id in self.rows:
-            refuse(f"vertex {id} is specified twice", self.path, self.text, found.start(1))
+            self.source.refuse(f"vertex {id} is specified twice", found.start(1))
         self.places[id] = found.start(1)
         self.rows[id] = priority, int(owner), list(targets), name[1:-1].replace('\\"', "'") if name else ""
+        return id
 
     def numbers(self, found, to):
         for it in re.finditer("[0-9]+", to or ""):
-            yield checked(self.path, self.text, it[0], found.start(4) + it.start())
+            yield self.source.number(it[0], found.start(4) + it.start(), MOST)
 
     def set_start(self, found):
-        start = number_of(self.path, self.text, found, 6)
+        start = number_of(self.source, found, 2)
         if self.start not in (None, start):
-            refuse(
-                f"a second line `start` names another vertex than {self.start}",
-                self.path,
-                self.text,
-                found.start(6),
-            )
+            why = f"a second line `start` names another vertex than {self.start}"
+            self.source.refuse(why, found.start(2))
         self.start = start
 
     def check(self):
@@ -195,17 +150,15 @@ class Game:
                 if to not in self.rows:
                     self.refuse(id, f"vertex {id}: successor {to} is not specified", to)
         if len(self.rows) > MOST_VERTICES or sum(len(row[2]) for row in self.rows.values()) > MOST_EDGES:
-            raise Refused(
-                f"{called(self.path)}: more than {MOST_VERTICES:,} vertices or {MOST_EDGES:,} edges"
-            )
+            sizes = f"more than {MOST_VERTICES:,} vertices or {MOST_EDGES:,} edges"
+            raise Refused(f"{called(self.path)}: {sizes}")
 
     def turn(self, least, odd):
         """Makes the greatest priority decide, and Even win by even ones."""
         top = max(row[0] for row in self.rows.values())
         top += top % 2
-        self.given, self.decides = {
-            id: row[0] for id, row in self.rows.items()
-        }, "least" if least else "greatest"
+        self.given = {id: row[0] for id, row in self.rows.items()}
+        self.decides = "least" if least else "greatest"
         for id, (priority, *row) in self.rows.items():
             priority = (top - priority if least else priority) + odd
             if priority > MOST:
@@ -218,11 +171,11 @@ class Game:
             raise Refused(f"{called(self.path)}: {why}")
         at = self.places[id]
         if number is not None:
-            found = VERTEX.match(self.text, at) or VERTEX.match(without_comments(self.text), at)
-            at = next(
-                found.start(4) + it.start() for it in re.finditer("[0-9]+", found[4]) if int(it[0]) == number
-            )
-        refuse(why, self.path, self.text, at)
+            match = VERTEX.pattern.match
+            found = match(self.text, at) or match(without_comments(self.text), at)
+            places = {int(it[0]): it.start() for it in reversed([*re.finditer("[0-9]+", found[4])])}
+            at = found.start(4) + places[number]
+        self.source.refuse(why, at)
 
     def called(self, id):
         """A vertex for people, with its name."""
@@ -246,9 +199,8 @@ def game_of_text(path, text, rules):
     if not text.lstrip().startswith("HOA:"):
         return Game.of_text(path, text, rules)
     if rules.min or rules.odd:
-        raise Refused(
-            "--min and --odd are for a game in PGSolver's format: one in the HOA format says what decides", 2
-        )
+        why = "--min and --odd are for a game in PGSolver's format: one in the HOA format says what decides"
+        raise Refused(why, WORDS)
     from . import hoa
 
     return hoa.game_of(hoa.Automaton(path, text), rules.dead_ends)
@@ -321,32 +273,26 @@ def solution_of(path, text):
     lines = " " * begins + without_comments(text[begins:])
     if begun:
         lines = re.sub(r"[^\n]", " ", text[:begins]) + lines[begins:]
-    for found in statements(path, lines, CHOICE, CHOICE_PARTS, "paritysol"):
-        if found[1] is None and rows:
-            refuse(
-                "a header comes before all lines", path, text, found.end() - len(found[0].lstrip(" \t\r\n"))
-            )
-        elif found[1] is not None:
-            id, choice = (number_of(path, text, found, group) for group in (1, 3))
-            if id in rows:
-                refuse(f"vertex {id} is written twice", path, text, found.start(1))
-            rows[id], places[id] = (int(found[2]), choice), found.start(1)
+    source = Text(path, text)
+    for kind, found in statements(Text(path, lines), CHOICE, SOLUTION_HEADER):
+        if kind is SOLUTION_HEADER:
+            if rows:
+                source.refuse("a header comes before all lines", found.start(1))
+            continue
+        id, choice = number_of(source, found, 1), number_of(source, found, 3)
+        if id in rows:
+            source.refuse(f"vertex {id} is written twice", found.start(1))
+        rows[id], places[id] = (int(found[2]), choice), found.start(1)
     return Solution(rows, path, text, places)
 
 
-def number_of(path, text, found, group):
-    return None if found[group] is None else checked(path, text, found[group], found.start(group))
-
-
-def checked(path, text, digits, at):
-    """The number of these digits at a place."""
-    if len(digits) > 9 and (len(digits.lstrip("0")) > 10 or int(digits) > MOST):
-        refuse(f"this number is above {MOST}", path, text, at)
-    return int(digits)
+def number_of(text, found, group, at=0):
+    """The number of a group of a match, which begins at a place of a text."""
+    return None if found[group] is None else text.number(found[group], at + found.start(group), MOST)
 
 
 def listed(path, text):
-    rows, places, player, at = {}, {}, None, 0
+    rows, places, player, at, source = {}, {}, None, 0, Text(path, text)
     for line in text.splitlines(keepends=True):
         head = LISTING.match(line)
         if head:
@@ -357,11 +303,10 @@ def listed(path, text):
             player = None
         elif player is not None:
             for found in re.compile(r"([0-9]+)(?:\s*->\s*([0-9]+))?").finditer(line, begins):
-                vertex = checked(path, text, found[1], at + found.start(1))
-                choice = found[2] and checked(path, text, found[2], at + found.start(2))
+                vertex, choice = number_of(source, found, 1, at), number_of(source, found, 2, at)
                 winner, before = rows.get(vertex, (player, None))
                 if winner != player:
-                    refuse(f"vertex {vertex} is listed for both players", path, text, at + found.start())
+                    source.refuse(f"vertex {vertex} is listed for both players", at + found.start())
                 rows[vertex] = player, before if choice is None else choice
                 places.setdefault(vertex, at + found.start())
         at += len(line)

@@ -11,12 +11,24 @@ Buchi's, are such ones. Whatever is not read is refused with its place.
 
 import re
 
-from . import Refused, called, shown
+from . import WORDS, Refused, called, shown
 from .games import Game, reached
-from .texts import Tokens
+from .texts import Tokens, kinds
 
 MOST_PROPOSITIONS = 14
 MOST = 10**9
+# what reads the rest of each header that is known
+HEADERS = {
+    "HOA:": "version",
+    "States:": "count",
+    "Start:": "start",
+    "AP:": "propositions",
+    "controllable-AP:": "outputs",
+    "Alias:": "alias",
+    "Acceptance:": "acceptance",
+    "spot-state-player:": "players",
+    "acc-name:": "names_condition",
+}
 # headers that may say whose a state or a proposition is
 PLAYERS = re.compile("(?i)player|owner|controll")
 COMMENT = re.compile(r"(/\*)|\*/")
@@ -28,10 +40,14 @@ NAMED = {"Buchi": (True, 0, 1), "co-Buchi": (True, 1, 1), "all": (True, 1, 0), "
 class Text(Tokens):
     """An automaton's text, in which comments may be nested."""
 
-    pattern = re.compile(
-        r'(?P<blank>\s+|/\*)|(?P<string>"(?:\\.|[^"\\])*")|(?P<header>[A-Za-z_][\w.-]*:)|(?P<name>@[\w-]+|[A-Za-z_][\w-]*)'
-        r"|(?P<number>[0-9]{1,9})(?![0-9])|(?P<part>--[A-Z]+--)|(?P<sign>[][{}()&|!])",
-        re.DOTALL,
+    pattern = kinds(
+        blank=r"\s+|/\*",
+        string=r'"(?:\\.|[^"\\])*"',
+        header=r"[A-Za-z_][\w.-]*:",
+        name=r"@[\w-]+|[A-Za-z_][\w-]*",
+        number=r"[0-9]{1,9}(?![0-9])",
+        part=r"--[A-Z]+--",
+        sign=r"[][{}()&|!]",
     )
 
     def end_of(self, found):
@@ -82,14 +98,8 @@ class Automaton:
         self.tokens = Text(path, text)
         self.first = self.names = self.controllable = self.condition = self.owners = self.name = None
         self.states = MOST
-        self.aliases, self.edges, self.targets, self.places, self.called, self.headers = (
-            {},
-            {},
-            {},
-            {},
-            {},
-            set(),
-        )
+        self.aliases, self.edges, self.targets, self.places, self.called = {}, {}, {}, {}, {}
+        self.headers = set()
         if not self.tokens.next_is("HOA:"):
             self.tokens.refuse("expected HOA:")
         while not self.tokens.takes("--BODY--"):
@@ -120,14 +130,11 @@ class Automaton:
         at, name = tokens.at(), tokens.take("a header").text
         if name in ("Alias:", "controllable-AP:") and self.names is None:
             tokens.refuse("the header AP: has to come before this one", at)
-        known = {"HOA:": self.version, "States:": self.count, "Start:": self.start, "AP:": self.propositions}
-        known.update({"controllable-AP:": self.outputs, "Alias:": self.alias, "Acceptance:": self.acceptance})
-        known.update({"spot-state-player:": self.players, "acc-name:": self.names_condition})
-        if name in known:
+        if name in HEADERS:
             if name in self.headers and name not in ("Start:", "Alias:"):
                 tokens.refuse(f"the header {name} is given twice", at)
             self.headers.add(name)
-            known[name]()
+            getattr(self, HEADERS[name])()
         elif name[0].isupper() or PLAYERS.search(name):
             # by the format, what a header with a capital letter says may not be passed over; players change a
             # game too
@@ -247,17 +254,15 @@ class Automaton:
             at = tokens.at()
             letters = self.implied(len(edges)) if implied else self.bracket() if common is None else common
             if self.owners is None and letters & seen:
-                tokens.refuse(
-                    f"not deterministic: an edge of state {state} before this one takes a letter of it", at
-                )
+                why = f"an edge of state {state} before this one takes a letter of it"
+                tokens.refuse(f"not deterministic: {why}", at)
             seen |= letters
             at, target = tokens.at(), tokens.number(self.states)
             self.targets.setdefault(target, at)
             edges.append((letters, self.priority(here + self.sets()), target))
         if implied and len(edges) != 1 << len(self.names):
-            tokens.refuse(
-                f"{len(edges)} edges without labels, where each of {1 << len(self.names)} letters has to have one"
-            )
+            count = f"{len(edges)} edges without labels"
+            tokens.refuse(f"{count}, where each of {1 << len(self.names)} letters has to have one")
         self.edges[state] = [it for it in edges if it[0]]
 
     def implied(self, at):
@@ -334,16 +339,14 @@ class Automaton:
         """Refuses a state that is not the player's, or whose edges are no choices of his propositions."""
         refuse = lambda why: self.tokens.refuse(f"state {state}: {why}", self.places[state])
         if self.owners[state] != player:
-            refuse(
-                f"player {1 - player}'s, where player {player} moves: they have to take turns, and player 0 begins"
-            )
+            turns = "they have to take turns, and player 0 begins"
+            refuse(f"player {1 - player}'s, where player {player} moves: {turns}")
         seen = 0
         for letters, _, _ in self.edges[state]:
             for it, name in enumerate(self.names):
                 # with and without a proposition of the other player the letters are the same
-                if (it in self.controllable) != bool(player) and (letters & self.holds[it]) >> (
-                    1 << it
-                ) != letters & ~self.holds[it]:
+                same = (letters & self.holds[it]) >> (1 << it) == letters & ~self.holds[it]
+                if (it in self.controllable) != bool(player) and not same:
                     refuse(f"a label names {shown(name)}, which player {player} doesn't choose")
             if letters & seen:
                 refuse("not deterministic: two of its edges take one letter")
@@ -399,9 +402,8 @@ def game_of(automaton, closes):
         rows = dict(sorted(vertices_of(automaton, closes)))
         return Game(rows, automaton.tokens.path, automaton.tokens.text, automaton.places, automaton.first)
     if closes:
-        raise Refused(
-            f"{called(automaton.tokens.path)}: --dead-ends is for a game, and an automaton needs none", 2
-        )
+        why = "--dead-ends is for a game, and an automaton needs none"
+        raise Refused(f"{called(automaton.tokens.path)}: {why}", WORDS)
     return Game.of_rows(Arena(automaton).rows)
 
 
@@ -422,9 +424,7 @@ def vertices_of(automaton, closes):
                 yield last, (own + 1, owner, [to], f"{state} to {to}")
         if not edges:
             if not closes:
-                automaton.tokens.refuse(
-                    f"state {state} has no edge: with --dead-ends lose its owner loses there",
-                    automaton.places[state],
-                )
+                why = f"state {state} has no edge: with --dead-ends lose its owner loses there"
+                automaton.tokens.refuse(why, automaton.places[state])
             successors, priority = [state], 1 - owner
         yield state, (priority, owner, list(successors), automaton.called[state])

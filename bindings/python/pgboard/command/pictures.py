@@ -32,6 +32,12 @@ def path(word):
 path.__name__ = "picture (.dot, .svg, .png or .pdf)"
 
 
+def add_option(parser, what):
+    """Adds the option `--picture` to a parser of words."""
+    said = f"draw {what}, in .dot, .svg, .png or .pdf"
+    parser.add_argument("--picture", metavar="FILE", type=path, help=said)
+
+
 def quoted(text):
     """A text as Graphviz takes it between quotes, with what doesn't print spelled out."""
     text = "\n".join(map(printable, text.split("\n")))
@@ -74,10 +80,14 @@ def of_game(game, solution):
     return graph([vertex(game, id, solution.get(id, [None])[0]) for id in sorted(game.rows)], edges)
 
 
-def draw(path, count, lines):
-    """Writes a picture of so many vertices, of lines of Graphviz text."""
-    head = ["digraph {", '    node [fontname="DejaVu Sans"];', '    edge [fontname="DejaVu Sans"];']
-    write_picture(path, count, "\n".join([*head, *(f"    {line};" for line in lines), "}", ""]))
+def draw_machine(path, count, first, arrows, states=()):
+    """Writes a picture of a machine of so many states: of its arrows, (from, to, what it shows), and of
+    states that may have none.
+    """
+    lines = ['node [fontname="DejaVu Sans"]', 'edge [fontname="DejaVu Sans"]', "rankdir=LR"]
+    lines += ["node [shape=circle]", "first [shape=point]", f"first -> {first}", *map(str, states)]
+    lines += [f"{state} -> {to} [label={quoted(shown)}]" for state, to, shown in arrows]
+    write_picture(path, count, "\n".join(["digraph {", *(f"    {it};" for it in lines), "}", ""]))
 
 
 def write_picture(path, count, text):

@@ -1,11 +1,12 @@
-"""Texts as files have them, packed or not, and as tokens, for grammars in which the next token says what
-begins there.
+"""Texts as files have them, packed or not; as statements, of which each has the same parts; and as tokens,
+for grammars in which the next token says what begins there.
 """
 
 # mypy: ignore-errors
 
 import importlib
 import io
+import re
 import shutil
 import zlib
 from typing import NamedTuple
@@ -53,6 +54,52 @@ def texts_of(*paths):
     return [text_of(it) for it in paths]
 
 
+class Text:
+    """A text, and where it comes from."""
+
+    def __init__(self, path, text):
+        self.path, self.text = path, text
+
+    def refuse(self, why, at):
+        raise Refused(why, place=(self.path, self.text, at))
+
+    def expect(self, wanted, begins, ends):
+        """Refuses what stands between two places, since something else is expected."""
+        found = shown(self.text[begins:ends]) or "the end of the text"
+        self.refuse(f"expected {wanted}, found {found}", begins)
+
+    def number(self, digits, at, most):
+        """The number of these digits at a place."""
+        if len(digits) > 9 and (len(digits.lstrip("0")) > 10 or int(digits) > most):
+            self.refuse(f"this number is above {most}", at)
+        return int(digits)
+
+
+class Statement:
+    """A kind of statement: how it is spelled, and its parts, (what is expected, how it is spelled, whether it
+    may be left out). Blanks may stand before each part.
+    """
+
+    blank = r"[ \t\r\n]*"
+
+    def __init__(self, *parts):
+        self.parts = parts
+        spelled = (rf"(?:{self.blank}({part})){'?' * may_lack}" for _, part, may_lack in parts)
+        self.pattern = re.compile("".join(spelled))
+
+    def missing(self, text, at):
+        """The place of the first part that is not there, where the statement begins, and what is expected."""
+        begins = None
+        for what, part, may_lack in self.parts:
+            at = re.compile(self.blank).match(text, at).end()
+            begins = at if begins is None else begins
+            found = re.compile(part).match(text, at)
+            if found:
+                at = found.end()
+            elif not may_lack:
+                return at, begins, what
+
+
 class Token(NamedTuple):
     """A token's text and place, and its kind: `a` and the name of its group in the pattern."""
 
@@ -62,14 +109,20 @@ class Token(NamedTuple):
     end: int
 
 
-class Tokens:
+def kinds(**spelled):
+    """The pattern of tokens of these kinds; `blank` is none."""
+    return re.compile("|".join(f"(?P<{kind}>{it})" for kind, it in spelled.items()), re.DOTALL)
+
+
+class Tokens(Text):
     """The tokens of a text, taken one after the other. What is wanted of a token is its text or its kind."""
 
-    # of each token a group, of which `blank` is none; and how a text may spell the text of another token
+    # of the kinds of tokens; and how a text may spell the text of another token
     pattern, same = None, {}
 
     def __init__(self, path, text):
-        self.path, self.text, self.left, self.done, at = path, text, [], 0, 0
+        super().__init__(path, text)
+        self.left, self.done, at = [], 0, 0
         while at < len(text):
             found = self.pattern.match(text, at)
             if not found:
@@ -98,7 +151,7 @@ class Tokens:
         self.refuse(f"this {self.text[at]} is never closed", at)
 
     def refuse(self, why, at=None):
-        raise Refused(why, place=(self.path, self.text, self.at() if at is None else at))
+        super().refuse(why, self.at() if at is None else at)
 
     def at(self):
         """The place of the next token, or where the last one ends."""
@@ -110,7 +163,7 @@ class Tokens:
     def take(self, *wanted):
         """The next token, which has to be one that is wanted."""
         if not self.next_is(*wanted):
-            self.expect(" or ".join(wanted))
+            self.wants(" or ".join(wanted))
         token = self.left.pop()
         self.done = token.end
         return token
@@ -119,10 +172,9 @@ class Tokens:
         """Takes the next token where it is one that is wanted, and says whether."""
         return bool(self.next_is(*wanted) and self.take(*wanted))
 
-    def expect(self, wanted):
+    def wants(self, wanted):
         """Refuses the next token, since another one is expected."""
-        found = shown(self.text[self.at() : self.left[-1].end]) if self.left else "the end of the text"
-        self.refuse(f"expected {wanted}, found {found}")
+        self.expect(wanted, self.at(), self.left[-1].end if self.left else self.at())
 
     def chain(self, operators, part, join):
         """What operators join, of which the first one binds least; `join` gets the operator, where its left

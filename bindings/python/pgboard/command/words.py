@@ -15,7 +15,7 @@ import sys
 
 from . import engine, explain, pictures, statistics
 from .games import PLAYERS, Game, Solution, game_of, game_of_text, solution_of
-from .texts import text_of, texts_of
+from .texts import Text, text_of, texts_of
 
 # (of a word, what its own statuses say comes before)
 STATUSES = "2 where the command line was refused, 3 a text, 4 a file or the output, 5 memory"
@@ -40,6 +40,8 @@ For a bad cycle it shows a shortest closed walk that the other player wins, of e
 where the winner owns a vertex, the edge to his choice, and elsewhere all edges. For an edge that leaves what
 its player is said to win, it shows the other ways. For a choice that is missing, or is no successor, it
 shows the line and what could be there."""
+VERIFY = "Says whether a solution is one, and if not, what is wrong first."
+STATS = "Counts vertices, edges, owners, priorities, own loops, degrees and components."
 DRAW = """Draws a game as Graphviz text, or as a picture by Graphviz's `dot`, on standard output.
 
 Even owns the diamonds and Odd the boxes. What Even wins is light with a plain border, what Odd wins is dark
@@ -73,6 +75,10 @@ def add_game(word, solution=None):
     word.add_argument(
         "--dead-ends", choices=["lose"], help="the owner of a vertex without successors loses there"
     )
+
+
+def add_timeout(word):
+    word.add_argument("--timeout", metavar="S", type=seconds, help="end after so many seconds, with status 6")
 
 
 def add_json(word):
@@ -133,7 +139,8 @@ def judged(given):
 def verify(given):
     _, _, said = judged(given)
     if given.json:
-        print_json({"is_solution": said == "ok", **({} if said == "ok" else {"fault": said})})
+        fault = {} if said == "ok" else {"fault": said}
+        print_json({"is_solution": said == "ok", **fault})
     else:
         print(said if said == "ok" else f"not a solution: {said}")
     return int(said != "ok")
@@ -171,28 +178,23 @@ def winner(given):
     game = game_of(given.game, given)
     start = game.start if given.vertex is None else given.vertex
     if start not in game.rows:
-        why = (
-            "no line `start` names a vertex: --vertex does"
-            if start is None
-            else f"there is no vertex {start}"
-        )
+        lacks = "no line `start` names a vertex: --vertex does"
+        why = lacks if start is None else f"there is no vertex {start}"
         raise Refused(f"{called(given.game)}: {why}")
     solution = engine.solved(game, timeout=given.timeout).solution.rows
     part, player = reached(game, solution, start), solution[start][0]
+    rows = {id: solution[id] for id in part.rows}
     if given.json:
-        print_json(
-            {"vertex": start, "winner": player, **({"reach": sorted(part.rows)} if given.reach else {})}
-        )
+        reach = {"reach": sorted(part.rows)} if given.reach else {}
+        print_json({"vertex": start, "winner": player, **reach})
     elif given.reach:
-        print(Solution({id: solution[id] for id in part.rows}).written(), end="", flush=True)
+        print(Solution(rows).written(), end="", flush=True)
     else:
         print(f"{PLAYERS[player]} wins vertex {start}", flush=True)
     if given.part:
         write(given.part, part.written())
     if given.picture:
-        pictures.write_picture(
-            given.picture, len(part.rows), pictures.of_game(part, {id: solution[id] for id in part.rows})
-        )
+        pictures.write_picture(given.picture, len(rows), pictures.of_game(part, rows))
     return player
 
 
@@ -211,7 +213,7 @@ def journal_of(path, text):
         elif line.startswith("report "):
             return entries
         elif not line.startswith("journal "):
-            raise Refused("this is no line of a trace", place=(path, text, at))
+            Text(path, text).refuse("this is no line of a trace", at)
         at += len(line)
     raise Refused(f"{called(path)}: the trace has no report")
 
@@ -219,24 +221,18 @@ def journal_of(path, text):
 def draw(given):
     if given.trace is not None and given.solution is not None:
         raise Refused("--trace comes without a SOLUTION", WORDS)
-    if given.entries is not None and (given.trace is None or given.entries < 0):
-        raise Refused(
-            "--entries comes with --trace"
-            if given.trace is None
-            else f"--entries: K is below 0: {given.entries}",
-            WORDS,
-        )
+    if given.entries is not None and given.trace is None:
+        raise Refused("--entries comes with --trace", WORDS)
+    if given.entries is not None and given.entries < 0:
+        raise Refused(f"--entries: K is below 0: {given.entries}", WORDS)
     second = given.solution if given.trace is None else given.trace
     first, *rest = texts_of(given.game, *([] if second is None else [second]))
     game, solution = game_of_text(given.game, first, given), {}
     pictures.check_count(given.game, len(game.rows))
-    parts = (
-        []
-        if second is None
-        else journal_of(second, rest[0])[: given.entries]
-        if given.trace
-        else [solution_of(second, rest[0])]
-    )
+    if given.trace:
+        parts = journal_of(second, *rest)[: given.entries]
+    else:
+        parts = [solution_of(second, it) for it in rest]
     for part in parts:
         part.check(game, is_part=True)
         for id, (winner, choice) in part.rows.items():
@@ -244,10 +240,10 @@ def draw(given):
                 part.refuse(id, f"{choice} is no successor of {id} in this game")
         solution.update(part.rows)
     text = pictures.of_game(game, solution)
-    made = (
-        text.encode("utf-8", "surrogateescape") if not given.kind else pictures.made_by_dot(text, given.kind)
-    )
-    sys.stdout.buffer.write(made)
+    if given.kind:
+        sys.stdout.buffer.write(pictures.made_by_dot(text, given.kind))
+    else:
+        print(text, end="")
 
 
 def stats(given):
@@ -262,25 +258,16 @@ def parser():
     words = top.add_subparsers(metavar="WORD", required=True, parser_class=Parser)
 
     def word(call, name, about, status=DONE, solution=None):
-        made = words.add_parser(
-            name,
-            help=about.split("\n")[0],
-            description=about,
-            epilog=f"status: {status}{STATUSES}",
-            is_raw=False,
-        )
+        short, epilog = about.split("\n")[0], f"status: {status}{STATUSES}"
+        made = words.add_parser(name, help=short, description=about, epilog=epilog, is_raw=False)
         made.set_defaults(call=call)
         add_game(made, solution)
         return made
 
-    it = word(
-        solve,
-        "solve",
-        SOLVE,
-        "0 where it is done, 1 where what is known does not hold, 6 where --timeout was not enough, ",
-    )
+    late = "6 where --timeout was not enough, "
+    it = word(solve, "solve", SOLVE, f"{DONE}1 where what is known does not hold, {late}")
     it.add_argument("--known", metavar="FILE", help="begin from a part of a solution")
-    it.add_argument("--timeout", metavar="S", type=seconds, help="end after so many seconds, with status 6")
+    add_timeout(it)
     it.add_argument("--partial", action="store_true", help="with --timeout: write what is settled by then")
     it.add_argument("--keep-names", action="store_true", help="write the name of a vertex after its line")
     it.add_argument(
@@ -289,34 +276,17 @@ def parser():
         help="also write what `stats` does, winners, time and entries, to standard error",
     )
     add_json(it)
-    add_json(
-        word(
-            verify,
-            "verify",
-            "Says whether a solution is one, and if not, what is wrong first.",
-            JUDGED,
-            "one",
-        )
-    )
+    add_json(word(verify, "verify", VERIFY, JUDGED, "one"))
     it = word(explains, "explain", EXPLAIN, JUDGED, "one")
-    it.add_argument(
-        "--picture",
-        metavar="FILE",
-        type=pictures.path,
-        help="draw what is wrong, in .dot, .svg, .png or .pdf",
-    )
-    it = word(
-        winner, "winner", WINNER, "0 where Even wins, 1 where Odd wins, 6 where --timeout was not enough, "
-    )
+    pictures.add_option(it, "what is wrong")
+    it = word(winner, "winner", WINNER, f"0 where Even wins, 1 where Odd wins, {late}")
     it.add_argument("--vertex", metavar="V", type=number, help="the vertex, by its identifier")
-    it.add_argument("--timeout", metavar="S", type=seconds, help="end after so many seconds, with status 6")
+    add_timeout(it)
     it.add_argument(
         "--reach", action="store_true", help="write the part that a play from there can reach, as a solution"
     )
     it.add_argument("--game", dest="part", metavar="FILE", help="write that part as a game of one player")
-    it.add_argument(
-        "--picture", metavar="FILE", type=pictures.path, help="draw that part, in .dot, .svg, .png or .pdf"
-    )
+    pictures.add_option(it, "that part")
     add_json(it)
     word(convert, "convert", CONVERT).add_argument(
         "--solution", action="store_true", help="the input is a solution, as PGSolver or Oink print it"
@@ -324,31 +294,19 @@ def parser():
     it = word(draw, "draw", DRAW, solution="?")
     kinds = it.add_mutually_exclusive_group()
     for kind in pictures.KINDS[1:]:
-        kinds.add_argument(
-            f"--{kind}",
-            dest="kind",
-            action="store_const",
-            const=kind,
-            help="write this picture, not Graphviz text",
-        )
+        said = "write this picture, not Graphviz text"
+        kinds.add_argument(f"--{kind}", dest="kind", action="store_const", const=kind, help=said)
     it.add_argument("--trace", metavar="TRACE", help="draw what an output of `pgboard trace` settles")
     it.add_argument("--entries", metavar="K", type=number, help="of its first K entries alone")
-    add_json(
-        word(
-            stats,
-            "stats",
-            "Counts vertices, edges, owners, priorities, own loops, degrees and components.",
-        )
-    )
+    add_json(word(stats, "stats", STATS))
     return top, words.choices
 
 
 def main(words):
     top, each = parser()
     # (options may come between the words of one)
-    given = (
-        each[words[0]].parse_intermixed_args(words[1:])
-        if words[:1] and words[0] in each
-        else top.parse_args(words)
-    )
+    if words and words[0] in each:
+        given = each[words[0]].parse_intermixed_args(words[1:])
+    else:
+        given = top.parse_args(words)
     return given.call(given)

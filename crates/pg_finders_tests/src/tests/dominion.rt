@@ -1,14 +1,8 @@
-//! Tests of what no clause says: worked cases, and that the contracts mean what the definitions say.
+//! Worked cases, each also after a refusal of memory, and that no search of a large game takes long.
 
 mod accepted;
-mod attractions;
-mod bodies;
-mod checked;
-mod claims;
 mod games;
 mod kept;
 mod memory;
 mod readme;
-mod reference;
-mod solutions;
 mod subgames;

@@ -2,7 +2,7 @@
 use Rattle.pgboard.proofs.Common.{ℕ, Bool, List, [], length, refl, arith, Option, Some, None, replicate}
 use Rattle.pgboard.proofs.Common.{Player, Graph, IsGame, KnownRows, IsKnownRegion, RunFault, IsReadGame}
 use Rattle.pgboard.proofs.Common.{IsSolveText, IsSolveOutput}
-use Rattle.pgboard.specs.Known.{IsReadKnown}
+use Rattle.pgboard.specs.KnownSource.{IsReadKnown}
 use Rattle.pgboard.specs.Refused.{IsNotKnown}
 use Rattle.pgboard.specs.private.Refused.{IsUnsolved}
 use Rattle.pgboard.specs.declared.fault.RunFault.TheVariants as fault

@@ -15,7 +15,7 @@ use Rattle.pg_finders.proofs.Sets.{not_same}
 use Rattle.pg_board.proofs.Common.{take-append-drop}
 use Rattle.pg_board.proofs.OpeningState.{no_region}
 use Rattle.pg_board.specs.declared.journal.Refusal.TheVariants as refusal
-use Rattle.pg_workers.specs.Known.{IsKnownRegion, IsSolveFault, known_rows}
+use Rattle.pg_workers.specs.KnownRegions.{IsKnownRegion, IsSolveFault, known_rows}
 use Rattle.pg_workers.specs.declared.known.SolveFault.TheVariants as solving
 use Rattle.pg_workers.proofs.KnownSets.{unknown_beyond}
 

@@ -71,19 +71,3 @@ fn the_capacity_is_what_was_expected_and_a_byte(rt: HostRuntime) {
         check_eq!(rt; read_from(&rt, rt.alloc(), *size, *expected), *want);
     }
 }
-
-/// All came, and there was capacity for more.
-fn assert_all(rt: &impl Abort, alloc: Global, size: usize, expected: u64) {
-    let (n, capacity, _) = read_from(rt, alloc, size, expected);
-    check_eq!(*rt; n, size);
-    check!(*rt; size < capacity);
-}
-
-#[test]
-fn what_comes_beyond_what_was_expected_is_read(rt: HostRuntime) {
-    for size in [1, 2, 65_536, 65_537, 65_538, 300_000] {
-        for expected in [0, 1, 65_536] {
-            assert_all(&rt, rt.alloc(), size, expected);
-        }
-    }
-}

@@ -17,7 +17,6 @@ enum Line {
         game: Option<&'static str>,
     },
     Trace(u32, Option<&'static str>),
-    Help(&'static str),
 }
 
 /// What `solve` asks for by itself.
@@ -32,54 +31,9 @@ const SOLVE: Line = Line::Solve {
 const LINES: &[(&[&str], Line)] = &[
     (&[], Line::Joined),
     (&["verify", "a", "b"], Line::Verify("a", "b")),
-    (&["verify", "-", "x y"], Line::Verify("-", "x y")),
-    (&["verify", "--", "-a", "--b"], Line::Verify("-a", "--b")),
     (&["tidy"], Line::Tidy(None)),
     (&["tidy", "a"], Line::Tidy(Some("a"))),
-    (&["tidy", ""], Line::Tidy(Some(""))),
-    (&["tidy", "--", "--x"], Line::Tidy(Some("--x"))),
-    // after a command its name is a path
-    (&["tidy", "tidy"], Line::Tidy(Some("tidy"))),
     (&["solve"], SOLVE),
-    (
-        &["solve", "--workers", "64", "--bound=0", "--winners", "a"],
-        Line::Solve {
-            workers: 64,
-            bound: 0,
-            winners: true,
-            known: None,
-            game: Some("a"),
-        },
-    ),
-    (
-        &[
-            "solve",
-            "--workers",
-            "1",
-            "--bound",
-            "8",
-            "--known",
-            "k",
-            "a",
-        ],
-        Line::Solve {
-            workers: 1,
-            bound: 8,
-            winners: false,
-            known: Some("k"),
-            game: Some("a"),
-        },
-    ),
-    (
-        &["solve", "--winners", "--known=-k"],
-        Line::Solve {
-            workers: 4,
-            bound: 4,
-            winners: true,
-            known: Some("-k"),
-            game: None,
-        },
-    ),
     // the path may be first, and options in any order
     (
         &[
@@ -90,11 +44,10 @@ const LINES: &[(&[&str], Line)] = &[
             "--winners",
             "--bound",
             "2",
-            "--workers",
-            "3",
+            "--workers=64",
         ],
         Line::Solve {
-            workers: 3,
+            workers: 64,
             bound: 2,
             winners: true,
             known: Some("k"),
@@ -112,79 +65,21 @@ const LINES: &[(&[&str], Line)] = &[
             game: Some("--winners"),
         },
     ),
-    // a sign and leading zeros have no effect
-    (
-        &["solve", "--workers=+064", "--bound=-0"],
-        Line::Solve {
-            workers: 64,
-            bound: 0,
-            winners: false,
-            known: None,
-            game: None,
-        },
-    ),
     (&["trace"], Line::Trace(4, None)),
     (&["trace", "--workers", "2"], Line::Trace(2, None)),
-    (&["trace", "--workers=1"], Line::Trace(1, None)),
     (&["trace", "a"], Line::Trace(4, Some("a"))),
-    (
-        &["trace", "a", "--workers", "64"],
-        Line::Trace(64, Some("a")),
-    ),
-    (&["trace", "--", "-a"], Line::Trace(4, Some("-a"))),
-    (&["--version"], Line::Help(VERSION)),
-    (&["-V"], Line::Help(VERSION)),
 ];
-
-/// What `--version` prints of a program over which no build has written what it knows.
-const VERSION: &str = "pgboard 0.1.0\n\
-kit: rattle-kit-13 logic dac8208d650f15bf\n\
-build: not recorded: whether this program was proved, and of which commit it is\n";
 
 /// Lines that are refused.
 const REFUSED: &[&[&str]] = &[
-    &["verify"],
     &["verify", "a"],
-    &["verify", "a", "b", "c"],
-    &["verify", "--known", "a", "b", "c"],
     &["tidy", "a", "b"],
     &["tidy", "--x"],
-    &["tidy", "-x"],
-    &["tidy", "--winners"],
-    &["tidy", "--", "a", "b"],
     &["x"],
-    &["Tidy"],
-    &[""],
     &["solve", "--workers", "0"],
     &["solve", "--workers", "65"],
-    &["solve", "--workers", "-1"],
-    &["solve", "--workers"],
-    &["solve", "--workers="],
-    &["solve", "--workers", "x"],
-    &["solve", "--workers", "1.0"],
     &["solve", "--bound", "9"],
-    &["solve", "--bound", "4294967296"],
     &["solve", "--bound", "18446744073709551616"],
-    &["solve", "--known"],
-    &["solve", "--known", "-k"],
-    &["solve", "--winners=true"],
-    // nothing is given twice
-    &["solve", "--workers", "1", "--workers", "1"],
-    &["solve", "--bound=1", "--bound=1"],
-    &["solve", "--winners", "--winners"],
-    &["solve", "--known", "a", "--known", "a"],
-    &["solve", "a", "b"],
-    // nothing is abbreviated, and options follow their command
-    &["solve", "--work", "1"],
-    &["solve", "-w", "1"],
-    &["--workers", "1", "solve"],
-    &["sol"],
-    &["trace", "--workers", "0"],
-    &["trace", "--workers", "65"],
-    &["trace", "--bound", "1"],
-    &["trace", "--winners"],
-    &["trace", "--known", "a"],
-    &["trace", "a", "b"],
     &["solve", "--version"],
     &["--"],
 ];
@@ -224,7 +119,6 @@ fn wanted(alloc: Global, line: &Line) -> Result<Asked, AllocError> {
             workers: *workers,
             game: owned(alloc, *game)?,
         },
-        Line::Help(text) => Asked::Help(String::from_str(alloc, text)?),
     })
 }
 
@@ -234,7 +128,7 @@ fn paths(line: &Line) -> (Option<&str>, Option<&str>) {
         Line::Verify(game, solution) => (Some(game), Some(solution)),
         Line::Tidy(game) | Line::Trace(_, game) => (*game, None),
         Line::Solve { known, game, .. } => (*game, *known),
-        Line::Joined | Line::Help(_) => (None, None),
+        Line::Joined => (None, None),
     }
 }
 
@@ -282,23 +176,7 @@ fn is_helped(alloc: Global, words: &[&str]) -> bool {
 
 #[test]
 fn help_is_asked_for(rt: HostRuntime) {
-    const HELP: &[&[&str]] = &[
-        &["--help"],
-        &["-h"],
-        &["help"],
-        &["help", "solve"],
-        &["help", "trace"],
-        &["help", "verify"],
-        &["help", "tidy"],
-        &["solve", "--help"],
-        &["solve", "-h"],
-        &["trace", "--help"],
-        &["verify", "-h"],
-        &["tidy", "--help"],
-        // before what would be refused
-        &["verify", "--help"],
-        &["solve", "--workers", "1", "-h", "--x"],
-    ];
+    const HELP: &[&[&str]] = &[&["--help"], &["help", "solve"], &["verify", "-h"]];
     for words in HELP {
         check!(rt; is_helped(rt.alloc(), words), *words);
     }

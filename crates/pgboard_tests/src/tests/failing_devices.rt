@@ -30,11 +30,6 @@ const LAYERS: Given = (b"0 0 0 0; 1 3 0 0,1; 2 3 1 1;", usize::MAX, u64::MAX);
 /// Identifiers with gaps, in any order.
 const GAPS: Given = (b"9 2 1 3,3,9; 3 1 0 9;", usize::MAX, u64::MAX);
 
-const LAYERS_SOLVED: &[u8] = b"paritysol 2;\n0 0 0;\n1 0 0;\n2 0;\n";
-
-/// A game that is refused.
-const CUT: Given = (b"0 0 0 1", usize::MAX, u64::MAX);
-
 /// A source that is not to be read, since it fails.
 const UNREAD: Given = (b"0 0 0;", 2, 0);
 
@@ -60,8 +55,6 @@ type Run = (
 const READ: (u8, &str) = (4, "read fault");
 
 const WRITE: (u8, &str) = (4, "write fault");
-
-const REFUSED: (u8, &str) = (3, "game: byte 7: not expected");
 
 const VERIFY: &[&str] = &["verify", "a", "b"];
 
@@ -90,33 +83,13 @@ const RUNS: &[Run] = &[
         b"",
         0,
     ),
-    // each read of the second source fails
+    // a read of the second source fails
     (VERIFY, GAME, (b"0 0 0;", 2, 1), ALL, READ, b"", 1),
-    (KNOWN, LAYERS, (b"0 0 0;", 2, 0), ALL, READ, b"", 0),
-    (KNOWN, LAYERS, (b"0 0 0;", 2, 1), ALL, READ, b"", 1),
     (KNOWN, LAYERS, (b"0 0 0;", 2, 2), ALL, READ, b"", 2),
-    (KNOWN, LAYERS, (b"0 0 0;", 2, 3), ALL, READ, b"", 3),
-    (
-        KNOWN,
-        LAYERS,
-        (b"0 0 0;", 2, 4),
-        ALL,
-        (0, ""),
-        LAYERS_SOLVED,
-        4,
-    ),
     // the sink is full after five bytes
-    (&[], JOINED, UNREAD, FIVE, WRITE, b"not a", 0),
     (&["tidy"], GAPS, UNREAD, FIVE, WRITE, b"parit", 0),
     (&["solve"], GAME, UNREAD, FIVE, WRITE, b"parit", 0),
     (&["trace"], GAME, UNREAD, FIVE, WRITE, b"journ", 0),
-    // a refused game leaves the second source unread
-    (&[], CUT, UNREAD, ALL, REFUSED, b"", 0),
-    (VERIFY, CUT, UNREAD, ALL, REFUSED, b"", 0),
-    (&["tidy"], CUT, UNREAD, ALL, REFUSED, b"", 0),
-    (&["solve"], CUT, UNREAD, ALL, REFUSED, b"", 0),
-    (KNOWN, CUT, UNREAD, ALL, REFUSED, b"", 0),
-    (&["trace"], CUT, UNREAD, ALL, REFUSED, b"", 0),
 ];
 
 /// What is answered to a run, whose second source and sink are given.

@@ -28,10 +28,7 @@ fn add_single(
     v: u32,
     player: Player,
 ) -> Result<(), Memory> {
-    let row = [(v, least_choice(game, v, player))];
-    let rows = Sequence::new(Vec::from_slice(alloc, row.as_slice())?);
-    claims.push(Claim { player, rows })?;
-    Ok(())
+    add(alloc, claims, player, &[(v, least_choice(game, v, player))])
 }
 
 fn add_singles(alloc: Global, claims: &mut Vec<Claim>, game: &Game) -> Result<(), Memory> {

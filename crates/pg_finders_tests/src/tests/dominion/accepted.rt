@@ -1,50 +1,87 @@
-//! That rankings are accepted: else searches from each bad vertex continue, which would take minutes in a ladder so long that
-//! each of them looks at some of 150,000 levels.
+//! That rankings are accepted: else searches from each bad vertex continue, which would take minutes in a
+//! ladder so long that each of them looks at some of 150,000 levels.
 
 ghost use Rattle.std.specs.Prelude.{◌≡◌, ◌≤◌, length};
 
 use crate::tests::asserting::made;
-use crate::tests::dominion::bodies::{HOSTILE, ROUNDS, SEED, behind, least_bad_by_definition};
-use crate::tests::dominion::games::{Hostile, add_plain, random_plain};
+use crate::tests::dominion::games::Hostile;
 use crate::tests::dominion::kept::{least_bad, odd_vertices};
 use pg_game::{Game, Mask};
-use pg_test_support::{Draft, Random};
+use pg_test_support::{Draft, Random, check_eq};
 use std::alloc::Global;
 use std::process::Abort;
 
 const LONG: Hostile = Hostile::Ladder(150_000, None);
 
-/// A part of a game after the ladder: its first vertex, the one after it, and the answer, if there is one.
+/// What is after the ladder; random games follow.
+const HOSTILE: &[Hostile] = &[
+    Hostile::Cycle(300, 2),
+    Hostile::Cycle(300, 1),
+    Hostile::Cycle(300, 3),
+    Hostile::Downward(200),
+    Hostile::Ladder(60, None),
+    Hostile::Ladder(60, Some(0)),
+    Hostile::Ladder(60, Some(30)),
+    Hostile::Ladder(60, Some(59)),
+    Hostile::Dense(40, 2),
+    Hostile::Dense(40, 1),
+    Hostile::Cycle(1, 1),
+    Hostile::Cycle(2, 2),
+    Hostile::Cycle(5_000, 2),
+];
+
+/// A part of a game after the ladder: its first vertex, the one after it, and its least bad vertex on a
+/// closed walk, if there is one.
 type Part = (u32, u32, Option<u32>);
 
-/// Adds hostile games, and notes where they are.
-fn add_hostile(
+/// Adds a part, and notes where it is, and the answer to it alone, which is so small that no ranking has to
+/// be accepted.
+fn add_part(
     rt: &impl Abort,
     alloc: Global,
     draft: &mut Draft,
     parts: &mut Vec<Part>,
-    games: &[(Hostile, Option<u32>)],
+    hostile: Hostile,
 ) {
-    for case in games {
-        let first = draft.len();
-        case.0.add(rt, alloc, draft);
-        made(rt, parts.push((first, draft.len(), behind(first, case.1))));
+    let first = draft.len();
+    hostile.add(rt, alloc, draft);
+    let answer = match least_bad_odd(rt, alloc, &hostile.game(rt, alloc)) {
+        Some(v) => Some(v.saturating_add(first)),
+        None => None,
+    };
+    made(rt, parts.push((first, draft.len(), answer)));
+}
+
+/// The least vertex of Odd's parity on a bad closed walk of all edges.
+fn least_bad_odd(rt: &impl Abort, alloc: Global, game: &Game) -> Option<u32> {
+    least_bad(rt, alloc, game, odd_vertices(rt, alloc, game))
+}
+
+fn add_hostile(rt: &impl Abort, alloc: Global, draft: &mut Draft, parts: &mut Vec<Part>) {
+    for hostile in HOSTILE {
+        add_part(rt, alloc, draft, parts, *hostile);
     }
 }
 
-/// Adds random games, and notes where they are.
 fn add_random(rt: &impl Abort, alloc: Global, draft: &mut Draft, parts: &mut Vec<Part>) {
-    let mut random = Random::new(SEED);
-    for _round in 0..ROUNDS {
-        let plain = random_plain(rt, alloc, &mut random);
-        let first = draft.len();
-        add_plain(rt, alloc, draft, plain.as_slice());
-        let answer = least_bad_by_definition(rt, alloc, plain.as_slice());
-        made(rt, parts.push((first, draft.len(), behind(first, answer))));
+    let mut seeds = Random::new(20_241_122);
+    for _round in 0..3_000u32 {
+        let seed = u64::from(seeds.below(u32::MAX));
+        add_part(rt, alloc, draft, parts, Hostile::Random(seed));
     }
 }
 
-/// The vertices with odd priorities, without those of parts that have an answer, but for the part at `chosen`.
+/// The ladder with all parts, and notes where these are.
+fn long_game(rt: &impl Abort, alloc: Global, parts: &mut Vec<Part>) -> Game {
+    let mut draft = Draft::new(alloc);
+    LONG.add(rt, alloc, &mut draft);
+    add_hostile(rt, alloc, &mut draft, parts);
+    add_random(rt, alloc, &mut draft, parts);
+    made(rt, draft.game(alloc))
+}
+
+/// The vertices with odd priorities, without those of parts that have an answer, but for the part at
+/// `chosen`.
 fn bad_vertices(rt: &impl Abort, alloc: Global, game: &Game, parts: &[Part], chosen: usize) -> Mask
     ensures { length result ≡ length game.now }
 {
@@ -83,16 +120,8 @@ fn compare_part(
     check_eq!(*rt; least_bad(rt, alloc, game, bad), want);
 }
 
-/// The ladder with all parts, and notes where these are.
-fn long_game(rt: &impl Abort, alloc: Global, parts: &mut Vec<Part>) -> Game {
-    let mut draft = Draft::new(alloc);
-    LONG.add(rt, alloc, &mut draft);
-    add_hostile(rt, alloc, &mut draft, parts, HOSTILE);
-    add_random(rt, alloc, &mut draft, parts);
-    made(rt, draft.game(alloc))
-}
-
-/// No part has a bad closed walk, and then each hostile one that has an answer and each four-hundredth random one alone has its.
+/// No part has a bad closed walk, and then each hostile one that has an answer and each four-hundredth random
+/// one alone has its.
 fn compare_parts(rt: &impl Abort, alloc: Global, game: &Game, parts: &[Part]) {
     compare_part(rt, alloc, game, parts, parts.len(), None);
     let mut place = 0usize;
@@ -114,8 +143,7 @@ fn a_ranking_is_accepted_of_each_game_behind_a_long_ladder(rt: HostRuntime) {
 /// The least bad vertex of a long ladder with a turned level.
 fn compare_turned(rt: &impl Abort, alloc: Global, level: u32, want: u32) {
     let game = Hostile::Ladder(150_000, Some(level)).game(rt, alloc);
-    let bad = odd_vertices(rt, alloc, &game);
-    check_eq!(*rt; least_bad(rt, alloc, &game, bad), Some(want));
+    check_eq!(*rt; least_bad_odd(rt, alloc, &game), Some(want));
 }
 
 #[test]

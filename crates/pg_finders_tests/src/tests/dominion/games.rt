@@ -1,35 +1,23 @@
-//! Games that are hostile to searches, and random ones. Their vertices are Odd's, so that Even's claim of them all keeps all
-//! edges. Each is added after the vertices of a draft.
+//! Games that are hostile to searches, and random ones. Their vertices are Odd's, so that Even's claim of
+//! them all keeps all edges. Each is added after the vertices of a draft.
 
 ghost use Rattle.std.specs.Prelude.{◌≡◌, length};
 
 use crate::tests::asserting::made;
 use pg_dominion::Claim;
 use pg_game::{Game, Mask, Player, Sequence};
-use pg_test_support::{
-    Draft, ODD, Plain, Random, Row, Vertex, bit, game_of, game_of_sets, mask_of, vertices_of,
-};
+use pg_test_support::{Draft, ODD, Random, Row, Vertex, game_of, mask_of, twice};
 use std::alloc::Global;
 use std::process::Abort;
 
 /// The game of a table, made once more where memory was refused.
 pub fn game_made(rt: &impl Abort, alloc: Global, vertices: &[Vertex]) -> Game {
-    match game_of(alloc, vertices) {
-        Ok(game) => game,
-        Err(_) => made(rt, game_of(alloc, vertices)),
-    }
-}
-
-pub fn plain_game(rt: &impl Abort, alloc: Global, plain: &[Plain]) -> Game {
-    made(rt, game_of_sets(alloc, plain))
+    made(rt, twice!(game_of(alloc, vertices)))
 }
 
 /// A claim, made once more where memory was refused.
 pub fn claim_of(rt: &impl Abort, alloc: Global, player: Player, rows: &[Row]) -> Claim {
-    let rows = match Vec::from_slice(alloc, rows) {
-        Ok(copy) => copy,
-        Err(_) => made(rt, Vec::from_slice(alloc, rows)),
-    };
+    let rows = made(rt, twice!(Vec::from_slice(alloc, rows)));
     Claim {
         player,
         rows: Sequence::new(rows),
@@ -55,9 +43,7 @@ fn add(
     owner: Player,
     successors: &[u32],
 ) {
-    if draft.add(alloc, priority, owner, successors).is_err() {
-        made(rt, draft.add(alloc, priority, owner, successors));
-    }
+    made(rt, twice!(draft.add(alloc, priority, owner, successors)));
 }
 
 /// The numbers from one on, before another.
@@ -76,17 +62,21 @@ pub enum Hostile {
     Cycle(u32, u32),
     /// This many bad vertices that lead to all below them, and a good one at the end.
     Downward(u32),
-    /// A ring with a good vertex for each level on a cycle through it, and a bad one below that on which nothing lies: each
-    /// component lies in that of the next level. Where a level is turned, its bad vertex has a priority above all.
+    /// A ring with a good vertex for each level on a cycle through it, and a bad one below that on which
+    /// nothing lies: each component lies in that of the next level. Where a level is turned, its bad vertex
+    /// has a priority above all.
     Ladder(u32, Option<u32>),
     /// Each of this many vertices leads to each, and vertex v has the priority `step * v`.
     Dense(u32, u32),
-    /// A bad vertex that leads to a cycle of this many good ones, this many of which lead to the next but one, too; after it two
-    /// bad ones of greater priorities that lead to 11 of them, and this many vertices on a cycle of their own. Nothing leads to
-    /// the first three.
+    /// A bad vertex that leads to a cycle of this many good ones, this many of which lead to the next but
+    /// one, too; after it two bad ones of greater priorities that lead to 11 of them, and this many vertices
+    /// on a cycle of their own. Nothing leads to the first three.
     Chords(u32, u32, u32),
-    /// This many bad vertices of rising priorities, each with one edge, to the first vertex of a cycle of this many good ones.
+    /// This many bad vertices of rising priorities, each with one edge, to the first vertex of a cycle of
+    /// this many good ones.
     Spokes(u32, u32),
+    /// One to 24 vertices with one to three random successors each, the same for the same number.
+    Random(u64),
 }
 
 impl Hostile {
@@ -102,6 +92,7 @@ impl Hostile {
                 add_cycle(rt, alloc, draft, others, 2);
             }
             Hostile::Spokes(n, rim) => add_spokes(rt, alloc, draft, n, rim),
+            Hostile::Random(seed) => add_random(rt, alloc, draft, seed),
         }
     }
 
@@ -113,10 +104,7 @@ impl Hostile {
 
     /// The game alone, made once more where memory was refused.
     pub fn game(self, rt: &impl Abort, alloc: Global) -> Game {
-        match self.draft(rt, alloc).game(alloc) {
-            Ok(game) => game,
-            Err(_) => made(rt, self.draft(rt, alloc).game(alloc)),
-        }
+        made(rt, twice!(self.draft(rt, alloc).game(alloc)))
     }
 }
 
@@ -212,10 +200,7 @@ fn on_cycle(first: u32, n: u32, at: u32) -> u32 {
 
 /// Capacity for a few vertices, taken once more where memory was refused.
 fn room_for(rt: &impl Abort, alloc: Global, few: u8) -> Vec<u32> {
-    match Vec::with_capacity(alloc, usize::from(few)) {
-        Ok(capacity) => capacity,
-        Err(_) => made(rt, Vec::with_capacity(alloc, usize::from(few))),
-    }
+    made(rt, twice!(Vec::with_capacity(alloc, usize::from(few))))
 }
 
 /// A few numbers from one on.
@@ -257,42 +242,31 @@ fn add_chords(rt: &impl Abort, alloc: Global, draft: &mut Draft, n: u32, more: u
     add(rt, alloc, draft, 5, ODD, some.as_slice());
 }
 
-/// One to 24 vertices with one to three random successors each.
-pub fn random_plain(rt: &impl Abort, alloc: Global, random: &mut Random) -> Vec<Plain> {
+fn add_random(rt: &impl Abort, alloc: Global, draft: &mut Draft, seed: u64) {
+    let mut random = Random::new(seed);
     let n = random.below(24).saturating_add(1);
     let degree = random.below(3).saturating_add(1);
     let priorities = random.below(12).saturating_add(1);
-    let mut rows = Vec::new(alloc);
-    for _v in 0..n {
-        let successors = random_set(random, n, degree);
-        made(rt, rows.push((random.below(priorities), ODD, successors)));
-    }
-    rows
-}
-
-/// This many random members below `n`, of which some may be the same.
-fn random_set(random: &mut Random, n: u32, degree: u32) -> u32 {
-    let mut set = 0;
-    for _i in 0..degree {
-        set |= bit(random.below(n));
-    }
-    set
-}
-
-/// The members of a set, each so much greater.
-fn moved(rt: &impl Abort, alloc: Global, set: u32, by: u32) -> Vec<u32> {
-    let mut moved = made(rt, vertices_of(alloc, set));
-    for v in moved.as_mut_slice() {
-        *v = v.saturating_add(by);
-    }
-    moved
-}
-
-/// Adds the vertices of a table.
-pub fn add_plain(rt: &impl Abort, alloc: Global, draft: &mut Draft, rows: &[Plain]) {
     let first = draft.len();
-    for row in rows {
-        let successors = moved(rt, alloc, row.2, first);
-        add(rt, alloc, draft, row.0, row.1, successors.as_slice());
+    for _v in 0..n {
+        let successors = random_successors(rt, alloc, &mut random, first, n, degree);
+        let priority = random.below(priorities);
+        add(rt, alloc, draft, priority, ODD, successors.as_slice());
     }
+}
+
+/// So many of the `n` numbers from one on, some of which may be the same.
+fn random_successors(
+    rt: &impl Abort,
+    alloc: Global,
+    random: &mut Random,
+    first: u32,
+    n: u32,
+    degree: u32,
+) -> Vec<u32> {
+    let mut successors = Vec::new(alloc);
+    for _successor in 0..degree {
+        made(rt, successors.push(first.saturating_add(random.below(n))));
+    }
+    successors
 }

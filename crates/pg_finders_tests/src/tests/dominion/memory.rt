@@ -1,28 +1,33 @@
-//! Where memory is refused to a call, it says so, and the same call with memory gives the same.
+//! Worked cases. Where memory is refused to a call, it says so, and the same call with memory gives the same.
 //!
-//! With ample memory these tests pass without meeting a refusal. `tests/refused_calls.py` of the repository runs each of
-//! them with one allocation after another refused. A run passes: what a test needs itself is made once more, too.
+//! With ample memory these tests pass without meeting a refusal. `tests/refused_calls.py` of the repository
+//! runs each of them with one allocation after another refused. A run passes: what a test needs itself is
+//! made once more, too.
 
 ghost use Rattle.std.specs.Prelude.{◌≡◌, length};
-ghost use Rattle.pg_game.specs.Subgame.{IsSubgame};
-ghost use Rattle.pg_game.specs.VertexSet.{Within, members};
 
 use crate::tests::asserting::made;
-use crate::tests::dominion::bodies::rows_of_all;
 use crate::tests::dominion::games::{Hostile, claim_of, game_made, mask_made};
-use crate::tests::dominion::kept::{all_vertices, least_bad, odd_vertices};
+use crate::tests::dominion::kept::{least_bad, odd_vertices};
 use crate::tests::dominion::subgames::{is_subgame, is_within};
 use pg_dominion::{
-    Checked, Claim, ClaimFault, SolutionFault, attract, check_claim, check_solution, judge_claim,
+    Checked, Claim, ClaimFault, SolutionFault, attract, check_claim, check_forward_solution,
+    check_solution, judge_claim,
 };
-use pg_game::{Game, Mask, Sequence};
-use pg_test_support::{EVEN, ODD, Row, Vertex};
+use pg_game::{Game, Mask, Player, Sequence};
+use pg_test_support::{EVEN, ODD, Row, Vertex, check, check_eq, twice};
 use pg_text::Solution;
 use std::alloc::Global;
 use std::process::Abort;
 
+/// Attraction in two layers, and an own loop that loses.
+const LAYERED: &[Vertex] = &[(0, EVEN, &[0]), (3, EVEN, &[0, 1]), (3, ODD, &[1])];
+
+/// A cycle whose greatest priority is at its last vertex.
+const CYCLE: &[Vertex] = &[(0, ODD, &[1]), (1, ODD, &[0])];
+
 /// Even wins everything, and only by the right choices.
-const GAME: &[Vertex] = &[
+const WINDING: &[Vertex] = &[
     (6, ODD, &[2, 4]),
     (8, ODD, &[2, 3, 4]),
     (7, EVEN, &[0, 1, 3, 4]),
@@ -30,72 +35,128 @@ const GAME: &[Vertex] = &[
     (5, ODD, &[0]),
 ];
 
-const GOOD: &[Row] = &[(0, None), (1, None), (2, Some(1)), (3, Some(4)), (4, None)];
+/// What is said of a claim.
+type Judged = Result<(), ClaimFault>;
 
-/// The closed walk from 2 by 0 has the greatest priority 7.
-const BAD: &[Row] = &[(0, None), (1, None), (2, Some(0)), (3, Some(4)), (4, None)];
+const NO_SHAPE_AT_0: Judged = Err(ClaimFault::Shape(0));
+
+const NO_SHAPE_AT_1: Judged = Err(ClaimFault::Shape(1));
+
+/// A game, a player, the rows of a claim of his there, and what is said of it.
+const CLAIMS: &[(&[Vertex], Player, &[Row], Judged)] = &[
+    (LAYERED, EVEN, &[(1, Some(1))], Err(ClaimFault::Cycle(1))),
+    (LAYERED, EVEN, &[(1, Some(0)), (2, None)], Ok(())),
+    (LAYERED, EVEN, &[(2, None), (1, Some(0))], NO_SHAPE_AT_1),
+    (LAYERED, EVEN, &[(1, None)], NO_SHAPE_AT_0),
+    (LAYERED, EVEN, &[(1, Some(2))], NO_SHAPE_AT_0),
+    (LAYERED, EVEN, &[(2, Some(1))], NO_SHAPE_AT_0),
+    (LAYERED, EVEN, &[(0, Some(0)), (3, None)], NO_SHAPE_AT_1),
+    (LAYERED, EVEN, &[], NO_SHAPE_AT_0),
+    (LAYERED, ODD, &[(1, None), (2, Some(1))], Ok(())),
+    (
+        CYCLE,
+        EVEN,
+        &[(0, None), (1, None)],
+        Err(ClaimFault::Cycle(1)),
+    ),
+    (
+        WINDING,
+        EVEN,
+        &[(0, None), (1, None), (2, Some(1)), (3, Some(4)), (4, None)],
+        Ok(()),
+    ),
+    // the closed walk from 2 by 0 has the greatest priority 7
+    (
+        WINDING,
+        EVEN,
+        &[(0, None), (1, None), (2, Some(0)), (3, Some(4)), (4, None)],
+        Err(ClaimFault::Cycle(2)),
+    ),
+];
+
+/// What is checked is the claim, of its game.
+fn compare_checked(rt: &impl Abort, alloc: Global, game: &Game, checked: &Checked, claim: &Claim) {
+    let again = made(rt, twice!(checked.claim(alloc)));
+    check_eq!(*rt; (again.player, again.rows.as_slice()), (claim.player, claim.rows.as_slice()));
+    check_eq!(*rt; checked.player(), claim.player);
+    check_eq!(*rt; checked.rows().len(), claim.rows.as_slice().len());
+    check_eq!(*rt; checked.first_foreign(game), None);
+}
 
 /// A call that judges a claim, made once more where memory was refused.
-fn judged_twice(alloc: Global, game: &Game, claim: &Claim) -> Result<(), ClaimFault> {
+fn judged_twice(alloc: Global, game: &Game, claim: &Claim) -> Judged {
     match judge_claim(alloc, game, claim) {
         Err(ClaimFault::Memory) => judge_claim(alloc, game, claim),
         answer => answer,
     }
 }
 
-/// What is said of a claim, which stays as it was.
-fn compare_judged(
-    rt: &impl Abort,
-    alloc: Global,
-    game: &Game,
-    rows: &[Row],
-    want: Result<(), ClaimFault>,
-) {
-    let claim = claim_of(rt, alloc, EVEN, rows);
-    check_eq!(*rt; judged_twice(alloc, game, &claim), want);
-    check_eq!(*rt; claim.rows.as_slice(), rows);
-}
-
-#[test]
-fn a_claim_is_judged_after_a_refusal(rt: HostRuntime) {
-    let game = game_made(&rt, rt.alloc(), GAME);
-    compare_judged(&rt, rt.alloc(), &game, GOOD, Ok(()));
-    let fault = Err(ClaimFault::Cycle(2));
-    compare_judged(&rt, rt.alloc(), &game, BAD, fault);
-}
-
-fn checked_twice(rt: &impl Abort, alloc: Global, game: &Game, claim: &Claim) -> Checked {
+fn checked_twice(alloc: Global, game: &Game, claim: &Claim) -> Result<Checked, ClaimFault> {
     match check_claim(alloc, game, claim) {
-        Ok(checked) => checked,
-        Err(_) => made(rt, check_claim(alloc, game, claim)),
+        Err(ClaimFault::Memory) => check_claim(alloc, game, claim),
+        answer => answer,
     }
 }
 
-fn claimed_twice(rt: &impl Abort, alloc: Global, checked: &Checked) -> Claim {
-    match checked.claim(alloc) {
-        Ok(claim) => claim,
-        Err(_) => made(rt, checked.claim(alloc)),
+fn compare_claim(rt: &impl Abort, alloc: Global, game: &Game, claim: &Claim, want: Judged) {
+    check_eq!(*rt; judged_twice(alloc, game, claim), want);
+    match checked_twice(alloc, game, claim) {
+        Ok(checked) => {
+            check!(*rt; want.is_ok());
+            compare_checked(rt, alloc, game, &checked, claim);
+        }
+        Err(fault) => check_eq!(*rt; Err(fault), want),
     }
-}
-
-/// The good claim, checked on the game.
-fn compare_checked(rt: &impl Abort, alloc: Global, game: &Game, checked: &Checked) {
-    check_eq!(*rt; checked.player(), EVEN);
-    check_eq!(*rt; claimed_twice(rt, alloc, checked).rows.as_slice(), GOOD);
-    check_eq!(*rt; checked.rows().len(), 5);
-    check_eq!(*rt; checked.first_foreign(game), None);
 }
 
 #[test]
-fn a_claim_is_checked_after_a_refusal(rt: HostRuntime) {
-    let game = game_made(&rt, rt.alloc(), GAME);
-    let claim = claim_of(&rt, rt.alloc(), EVEN, GOOD);
-    let checked = checked_twice(&rt, rt.alloc(), &game, &claim);
-    compare_checked(&rt, rt.alloc(), &game, &checked);
-    check_eq!(rt; claim.rows.as_slice(), GOOD);
+fn claims_are_checked_after_a_refusal(rt: HostRuntime) {
+    for case in CLAIMS {
+        let game = game_made(&rt, rt.alloc(), case.0);
+        let claim = claim_of(&rt, rt.alloc(), case.1, case.2);
+        compare_claim(&rt, rt.alloc(), &game, &claim, case.3);
+    }
 }
 
-/// The answer to a solution, asked once more where memory was refused.
+/// A winner and a choice for each vertex.
+type Won = (Player, Option<u32>);
+
+/// Each player has a loop of his own.
+const DIVIDED: &[Vertex] = &[(2, EVEN, &[0, 1]), (1, ODD, &[1])];
+
+/// A game, winners and choices, and what is said of them.
+const SOLUTIONS: &[(&[Vertex], &[Won], Result<(), SolutionFault>)] = &[
+    // a walk that the loser closes is found
+    (
+        WINDING,
+        &[
+            (EVEN, None),
+            (EVEN, None),
+            (EVEN, Some(0)),
+            (EVEN, Some(4)),
+            (EVEN, None),
+        ],
+        Err(SolutionFault::Cycle(2)),
+    ),
+    (DIVIDED, &[(EVEN, Some(0)), (ODD, Some(1))], Ok(())),
+    (
+        DIVIDED,
+        &[(EVEN, None), (ODD, Some(1))],
+        Err(SolutionFault::NoChoice(0)),
+    ),
+    (
+        DIVIDED,
+        &[(EVEN, Some(0)), (ODD, Some(0))],
+        Err(SolutionFault::BadChoice(1)),
+    ),
+    (
+        DIVIDED,
+        &[(EVEN, Some(1)), (ODD, Some(1))],
+        Err(SolutionFault::Leaves(0, 1)),
+    ),
+];
+
+/// Calls that judge a solution, made once more where memory was refused.
 fn solved_twice(alloc: Global, game: &Game, solution: &Solution) -> Result<(), SolutionFault>
     requires { length solution.now.rows ≡ length game.now }
 {
@@ -105,82 +166,69 @@ fn solved_twice(alloc: Global, game: &Game, solution: &Solution) -> Result<(), S
     }
 }
 
-/// Even wins everything by these choices.
-fn solution_of(rt: &impl Abort, alloc: Global, choices: &[Row]) -> Solution {
-    let mut rows = Vec::new(alloc);
-    for row in choices {
-        if rows.push((EVEN, row.1)).is_err() {
-            made(rt, rows.push((EVEN, row.1)));
-        }
-    }
-    Solution {
-        rows: Sequence::new(rows),
-    }
-}
-
-/// The solution has these choices still.
-fn compare_choices(rt: &impl Abort, solution: &Solution, choices: &[Row]) {
-    let rows = solution.rows.as_slice();
-    check_eq!(*rt; rows.len(), choices.len());
-    let mut v = 0usize;
-    for row in choices {
-        check_eq!(*rt; rows.get(v), Some(&(EVEN, row.1)));
-        v = v.wrapping_add(1);
+fn solved_forward_twice(
+    alloc: Global,
+    game: &Game,
+    solution: &Solution,
+) -> Result<(), SolutionFault>
+    requires { length solution.now.rows ≡ length game.now }
+{
+    match check_forward_solution(alloc, game.forward(), solution) {
+        Err(SolutionFault::Memory) => check_forward_solution(alloc, game.forward(), solution),
+        answer => answer,
     }
 }
 
-/// Even wins all of the game by these choices, or not.
 fn compare_solution(
     rt: &impl Abort,
     alloc: Global,
     game: &Game,
-    choices: &[Row],
+    rows: &[Won],
     want: Result<(), SolutionFault>,
 ) {
-    let solution = solution_of(rt, alloc, choices);
+    let solution = Solution {
+        rows: Sequence::new(made(rt, twice!(Vec::from_slice(alloc, rows)))),
+    };
     if solution.rows.as_slice().len() == game.len() as usize {
         check_eq!(*rt; solved_twice(alloc, game, &solution), want);
+        check_eq!(*rt; solved_forward_twice(alloc, game, &solution), want);
     } else {
         check!(*rt; false, "there is not one row for each vertex");
     }
-    compare_choices(rt, &solution, choices);
 }
 
 #[test]
-fn a_solution_is_checked_after_a_refusal(rt: HostRuntime) {
-    let game = game_made(&rt, rt.alloc(), GAME);
-    compare_solution(&rt, rt.alloc(), &game, GOOD, Ok(()));
-    let fault = Err(SolutionFault::Cycle(2));
-    compare_solution(&rt, rt.alloc(), &game, BAD, fault);
+fn solutions_are_checked_after_a_refusal(rt: HostRuntime) {
+    for case in SOLUTIONS {
+        let game = game_made(&rt, rt.alloc(), case.0);
+        compare_solution(&rt, rt.alloc(), &game, case.1, case.2);
+    }
 }
 
-fn attracted_twice(
+/// A player, the vertices inside, a target, and the rows that are attracted.
+type Attraction<'a> = (Player, u32, u32, &'a [Row]);
+
+const ATTRACTIONS: &[Attraction] = &[
+    (EVEN, 0b111, 0b001, &[(1, Some(0)), (2, None)]),
+    (EVEN, 0b111, 0b111, &[]),
+    (ODD, 0b111, 0b010, &[(2, Some(1))]),
+    (EVEN, 0b011, 0b001, &[(1, Some(0))]),
+];
+
+fn compare_attracted(
     rt: &impl Abort,
     alloc: Global,
     game: &Game,
     inside: &Mask,
     target: &Mask,
-) -> Vec<Row>
-    requires inside_length { length inside.now ≡ length game.now }
-    requires target_length { length target.now ≡ length game.now }
-    requires subgame { IsSubgame game.now (members inside.now) }
-    requires within { Within (members target.now) (members inside.now) }
-{
-    match attract(alloc, game, inside, EVEN, target) {
-        Ok(rows) => rows,
-        Err(_) => made(rt, attract(alloc, game, inside, EVEN, target)),
-    }
-}
-
-/// What is attracted to the last vertex, where the masks are a subgame and target; the masks stay as they were.
-fn compare_attracted(rt: &impl Abort, alloc: Global, game: &Game, inside: &Mask, target: &Mask)
+    case: &Attraction,
+)
     requires inside_length { length inside.now ≡ length game.now }
     requires target_length { length target.now ≡ length game.now }
 {
     if is_subgame(game, inside) && is_within(target, inside, game.len()) {
-        let rows = attracted_twice(rt, alloc, game, inside, target);
-        check_eq!(*rt; rows.as_slice(), &[(2, Some(4)), (3, Some(4)), (0, None), (1, None)]);
-        check_eq!(*rt; (inside.count(), target.count()), (5, 1));
+        let rows = made(rt, twice!(attract(alloc, game, inside, case.0, target)));
+        check_eq!(*rt; rows.as_slice(), case.3);
     } else {
         check!(*rt; false, "the masks are no subgame and target");
     }
@@ -188,47 +236,40 @@ fn compare_attracted(rt: &impl Abort, alloc: Global, game: &Game, inside: &Mask,
 
 #[test]
 fn vertices_are_attracted_after_a_refusal(rt: HostRuntime) {
-    let game = game_made(&rt, rt.alloc(), GAME);
-    let inside = all_vertices(&rt, rt.alloc(), &game);
-    let target = mask_made(&rt, rt.alloc(), game.len(), 0b1_0000);
-    compare_attracted(&rt, rt.alloc(), &game, &inside, &target);
-}
-
-/// The least bad vertex, with an answer that is the same after a refusal.
-fn compare_least_bad(rt: &impl Abort, alloc: Global, game: &Game, bad: Mask, want: Option<u32>)
-    requires { length bad ≡ length game.now }
-{
-    check_eq!(*rt; least_bad(rt, alloc, game, bad), want);
-}
-
-/// The vertices with odd priorities, without the greatest of them.
-fn without_2(rt: &impl Abort, alloc: Global, game: &Game) -> Mask
-    ensures { length result ≡ length game.now }
-{
-    let mut bad = odd_vertices(rt, alloc, game);
-    if 2 < game.len() {
-        bad.remove(2);
+    let game = game_made(&rt, rt.alloc(), LAYERED);
+    for case in ATTRACTIONS {
+        let inside = mask_made(&rt, rt.alloc(), game.len(), case.1);
+        let target = mask_made(&rt, rt.alloc(), game.len(), case.2);
+        compare_attracted(&rt, rt.alloc(), &game, &inside, &target, case);
     }
-    bad
 }
 
 #[test]
 fn the_least_bad_vertex_is_found_after_a_refusal(rt: HostRuntime) {
-    let game = game_made(&rt, rt.alloc(), GAME);
+    let game = game_made(&rt, rt.alloc(), WINDING);
     let odd = odd_vertices(&rt, rt.alloc(), &game);
-    compare_least_bad(&rt, rt.alloc(), &game, odd, Some(2));
-    let bad = without_2(&rt, rt.alloc(), &game);
-    compare_least_bad(&rt, rt.alloc(), &game, bad, None);
+    check_eq!(rt; least_bad(&rt, rt.alloc(), &game, odd), Some(2));
 }
 
-/// The answer to Even's claim of all vertices of a hostile game, which is a good one.
+/// Rows of this many vertices, without choices.
+fn rows_of_all(rt: &impl Abort, alloc: Global, n: u32) -> Vec<Row> {
+    let mut rows = Vec::new(alloc);
+    for v in 0..n {
+        made(rt, twice!(rows.push((v, None))));
+    }
+    rows
+}
+
+/// Even's claim of all vertices of a hostile game, which is a good one.
 fn compare_hostile(rt: &impl Abort, alloc: Global, hostile: Hostile) {
     let game = hostile.game(rt, alloc);
     let rows = rows_of_all(rt, alloc, game.len());
-    compare_judged(rt, alloc, &game, rows.as_slice(), Ok(()));
+    let claim = claim_of(rt, alloc, EVEN, rows.as_slice());
+    check_eq!(*rt; twice!(judge_claim(alloc, &game, &claim)), Ok(()));
 }
 
-// The two games have as many vertices. `tests/refused_calls.py` of the repository compares how many allocations there are.
+// The two games have as many vertices. `tests/refused_calls.py` of the repository compares how many
+// allocations there are.
 
 /// The first search looks at each edge of the cycle and shows all of it.
 #[test]
@@ -242,9 +283,10 @@ fn a_ladder_is_judged_after_a_refusal(rt: HostRuntime) {
     compare_hostile(&rt, rt.alloc(), Hostile::Ladder(33, None));
 }
 
-// In the next two games a search from vertex 0 reaches a cycle of 25 vertices, and those from vertices 26 and 27 look at its edges
-// again. A ranking is made where more than 25 such looks are left: a quarter of the 100 vertices. The search from vertex 27, which
-// has 11 edges, first takes 26 of them off: twice its edges, and 4.
+// In the next two games a search from vertex 0 reaches a cycle of 25 vertices, and those from vertices 26 and
+// 27 look at its edges again. A ranking is made where more than 25 such looks are left: a quarter of the 100
+// vertices. The search from vertex 27, which has 11 edges, first takes 26 of them off: twice its edges, and
+// 4.
 
 /// 25 edges: were one looked at twice, or fewer looks taken off, a ranking would be made.
 #[test]
@@ -258,8 +300,8 @@ fn with_one_edge_more_a_ranking_is_made_after_a_refusal(rt: HostRuntime) {
     compare_hostile(&rt, rt.alloc(), Hostile::Chords(25, 1, 72));
 }
 
-// In the next two games each search but the first looks at all edges of the cycle again, and takes 6 looks off before: twice its
-// one edge, and 4.
+// In the next two games each search but the first looks at all edges of the cycle again, and takes 6 looks
+// off before: twice its one edge, and 4.
 
 /// 6 edges: none of these looks is left after the next search, so no ranking is made.
 #[test]

@@ -9,7 +9,7 @@ use crate::tests::dominion::games::{claim_of, game_made, mask_made};
 use crate::tests::dominion::subgames::{is_subgame, is_within};
 use pg_dominion::{Checked, Claim, ClaimFault, attract, check_claim};
 use pg_game::{Game, Mask, Player, Sequence};
-use pg_test_support::{EVEN, ODD, Vertex};
+use pg_test_support::{EVEN, ODD, Vertex, check, check_eq};
 use std::alloc::{AllocError, Global};
 use std::process::Abort;
 

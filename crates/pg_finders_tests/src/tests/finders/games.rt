@@ -2,10 +2,10 @@
 
 ghost use Rattle.std.specs.Prelude.{◌≡◌, length};
 
-use pg_dominion::Claim;
+use crate::tests::asserting::made;
 use pg_finders::{Copied, Inside};
-use pg_game::{Game, Mask, Player};
-use pg_test_support::{Draft, EVEN, ODD, Row, Vertex, game_of, mask_of};
+use pg_game::{Game, GameFault, Mask, Player};
+use pg_test_support::{Draft, EVEN, ODD, Row, Vertex, game_of, mask_of, twice};
 use std::alloc::Global;
 use std::process::Abort;
 
@@ -46,9 +46,10 @@ pub const NINE: &[Vertex] = &[
     (0, EVEN, &[0]),
 ];
 
-/// The game of these vertices, of which nothing is said.
+/// The game of these vertices, of which nothing is said. It, masks and copies are made once more where memory
+/// was refused.
 pub fn game(rt: &impl Abort, alloc: Global, vertices: &[Vertex]) -> Game {
-    game_of(alloc, vertices).expect(rt, "a game")
+    made(rt, twice!(game_of(alloc, vertices)))
 }
 
 /// The game's part that the mask has, which has to be a subgame.
@@ -66,15 +67,20 @@ pub fn inside_of<'g>(rt: &impl Abort, game: &'g Game, mask: Mask) -> Inside<'g>
 pub fn whole<'g>(rt: &impl Abort, alloc: Global, game: &'g Game) -> Inside<'g>
     ensures { result.graph ≡ game.now }
 {
-    let mask = Mask::full(alloc, game.len()).expect(rt, "memory");
-    inside_of(rt, game, mask)
+    match Mask::full(alloc, game.len()) {
+        Ok(mask) => inside_of(rt, game, mask),
+        Err(_) => inside_of(rt, game, Mask::full(alloc, game.len()).expect(rt, "memory")),
+    }
 }
 
 /// The mask with the members of a set.
 pub fn mask(rt: &impl Abort, alloc: Global, game: &Game, members: u32) -> Mask
     ensures { length result ≡ length game.now }
 {
-    mask_of(alloc, game.len(), members).expect(rt, "memory")
+    match mask_of(alloc, game.len(), members) {
+        Ok(mask) => mask,
+        Err(_) => mask_of(alloc, game.len(), members).expect(rt, "memory"),
+    }
 }
 
 /// The game's part with the members of a set.
@@ -90,14 +96,6 @@ pub fn whole_copy<'g>(rt: &impl Abort, alloc: Global, game: &'g Game) -> Copied<
         inside: whole(rt, alloc, game),
         at: 0,
         settled: 0,
-    }
-}
-
-/// The player and the vertices with their choices, where there is a claim.
-pub fn told_of(claim: &Option<Claim>) -> Option<(Player, &[Row])> {
-    match claim {
-        Some(claim) => Some((claim.player, claim.rows.as_slice())),
-        None => None,
     }
 }
 
@@ -150,15 +148,17 @@ pub fn formed(rt: &impl Abort, alloc: Global, form: Form, n: u32) -> Game {
 
 /// 200 vertices, of which each is Even's, has an odd priority and leads to all.
 pub fn dense(rt: &impl Abort, alloc: Global) -> Game {
+    made(rt, twice!(dense_of(alloc, 200)))
+}
+
+fn dense_of(alloc: Global, n: u32) -> Result<Game, GameFault> {
     let mut successors = Vec::new(alloc);
-    for v in 0..200 {
-        successors.push(v).expect(rt, "memory");
+    for v in 0..n {
+        successors.push(v)?;
     }
     let mut draft = Draft::new(alloc);
-    for _v in 0..200 {
-        draft
-            .add(alloc, 1, EVEN, successors.as_slice())
-            .expect(rt, "memory");
+    for _v in 0..n {
+        draft.add(alloc, 1, EVEN, successors.as_slice())?;
     }
-    draft.game(alloc).expect(rt, "a game")
+    draft.game(alloc)
 }

@@ -1,82 +1,226 @@
-//! Where memory is refused to a search, it says so, and the same search with memory gives the same. `Inside::new` takes no
-//! memory.
+//! The finders on worked games, also of small dominions by bound and budget. Where memory is refused to a
+//! search, it says so, and the same search with memory gives the same.
 //!
-//! With ample memory these tests pass without meeting a refusal. `tests/refused_calls.py` of the repository runs each of
-//! them with one allocation after another refused. A run passes, or says that memory was refused to what the test needs
-//! itself.
+//! With ample memory these tests pass without meeting a refusal. `tests/refused_calls.py` of the repository
+//! runs each of them with one allocation after another refused. A run passes: what a test needs itself is
+//! made once more, too.
 
-ghost use Rattle.std.specs.Prelude.{◌≡◌, ◌<◌, IfOk, length};
-
-use crate::tests::finders::games::{inside_of, told_of};
+use crate::tests::asserting::made;
+use crate::tests::finders::games::{EIGHT, EIGHT_ROWS, NINE, dense, game, part, whole, whole_copy};
 use pg_dominion::Claim;
 use pg_finders::{
     Copied, Finder, Found, Inside, Job, Small, Solved, Standard, find_loop, find_small,
     find_solitaire, zielonka,
 };
-use pg_game::{Game, Mask, Player};
-use pg_test_support::{EVEN, ODD, Row, Vertex, game_of, lacking, needed};
+use pg_game::Player;
+use pg_test_support::{EVEN, ODD, Row, Vertex, check_eq, twice};
 use std::alloc::Global;
 use std::process::Abort;
-use std::test::Fail;
 
-/// What is done once more where memory was refused to it.
+/// All vertices of a small game, as the set of its part.
+const ALL: u32 = u32::MAX;
+
+/// A search for a loop of the player, or for where one player alone has choices.
 #[derive(Clone, Copy)]
-enum Call {
-    Solve,
-    Loops,
+enum Search {
+    Loop(Player),
     Solitaire,
-    Small,
-    Jobs,
 }
 
-/// All of the game.
-fn needed_whole<'g>(rt: &impl Abort, alloc: Global, game: &'g Game) -> Result<Inside<'g>, Fail>
-    ensures { IfOk result (λ inside. inside.graph ≡ game.now) }
-{
-    match Mask::full(alloc, game.len()) {
-        Ok(mask) => Ok(inside_of(rt, game, mask)),
-        Err(_) => Err(lacking()),
+/// A game, the members of its part, a search, and the player and the rows of what is found.
+type Case<'a> = (&'a [Vertex<'a>], u32, Search, Option<(Player, &'a [Row])>);
+
+fn found(rt: &impl Abort, alloc: Global, inside: &Inside, search: Search) -> Option<Claim> {
+    match search {
+        Search::Loop(player) => made(rt, twice!(find_loop(alloc, inside, player))),
+        Search::Solitaire => made(rt, twice!(find_solitaire(alloc, inside))),
     }
 }
 
-/// A copy of all of the game, of which nothing is said.
-fn needed_copy<'g>(rt: &impl Abort, alloc: Global, game: &'g Game) -> Result<Copied<'g>, Fail> {
-    Ok(Copied {
-        inside: needed_whole(rt, alloc, game)?,
-        at: 7,
-        settled: 11,
-    })
-}
-
-/// The copy is of all of the game still.
-fn compare_copy(rt: &impl Abort, copied: &Copied, game: &Game) {
-    check!(*rt; *copied.inside.game() == *game);
-    check_eq!(*rt; copied.inside.mask().count(), game.len());
-    check_eq!(*rt; (copied.at, copied.settled), (7, 11));
-}
-
-/// A call on a copy of the game of these vertices does what it has to, and leaves the copy as it was.
-fn after_a_refusal(
-    rt: &impl Abort,
-    alloc: Global,
-    vertices: &[Vertex],
-    call: Call,
-) -> Result<(), Fail> {
-    let game = needed(game_of(alloc, vertices))?;
-    let copied = needed_copy(rt, alloc, &game)?;
-    compare_call(rt, alloc, &copied, call);
-    compare_copy(rt, &copied, &game);
-    Ok(())
-}
-
-fn compare_call(rt: &impl Abort, alloc: Global, copied: &Copied, call: Call) {
-    match call {
-        Call::Solve => compare_solved(rt, &solved_twice(rt, alloc, &copied.inside)),
-        Call::Loops => compare_loops(rt, alloc, &copied.inside),
-        Call::Solitaire => compare_solitaire(rt, alloc, &copied.inside),
-        Call::Small => compare_small(rt, alloc, &copied.inside),
-        Call::Jobs => compare_jobs(rt, alloc, copied),
+/// The player and the vertices with their choices, where there is a claim.
+fn told_of(claim: &Option<Claim>) -> Option<(Player, &[Row])> {
+    match claim {
+        Some(claim) => Some((claim.player, claim.rows.as_slice())),
+        None => None,
     }
+}
+
+fn assert_found(rt: &impl Abort, alloc: Global, inside: &Inside, case: &Case) {
+    let found = found(rt, alloc, inside, case.2);
+    check_eq!(*rt; told_of(&found), case.3, case.0);
+}
+
+fn assert_case(rt: &impl Abort, alloc: Global, case: &Case) {
+    let game = game(rt, alloc, case.0);
+    let inside = part(rt, alloc, &game, case.1);
+    assert_found(rt, alloc, &inside, case);
+}
+
+const THREE_LOOPS: &[Vertex] = &[(0, EVEN, &[0]), (0, ODD, &[0]), (1, ODD, &[2])];
+
+const TO_A_LOOP: &[Vertex] = &[(0, EVEN, &[0]), (0, ODD, &[0, 1])];
+
+const BOTH_CHOOSE: &[Vertex] = &[(0, EVEN, &[0, 1]), (0, ODD, &[0, 1])];
+
+const CYCLE: &[Vertex] = &[(1, EVEN, &[1]), (2, EVEN, &[0])];
+
+const ITSELF: &[Vertex] = &[(0, EVEN, &[0])];
+
+const CASES: &[Case] = &[
+    // loops are found for their player
+    (
+        THREE_LOOPS,
+        ALL,
+        Search::Loop(ODD),
+        Some((ODD, &[(2, Some(2))])),
+    ),
+    // an opponent without another way inside is a loop
+    (
+        TO_A_LOOP,
+        0b10,
+        Search::Loop(EVEN),
+        Some((EVEN, &[(1, None)])),
+    ),
+    // where both players choose nothing is solitaire
+    (BOTH_CHOOSE, ALL, Search::Solitaire, None),
+    (
+        BOTH_CHOOSE,
+        ALL,
+        Search::Loop(EVEN),
+        Some((EVEN, &[(0, Some(0))])),
+    ),
+    (BOTH_CHOOSE, ALL, Search::Loop(ODD), None),
+    // a cycle is solitaire
+    (
+        CYCLE,
+        ALL,
+        Search::Solitaire,
+        Some((EVEN, &[(0, Some(1)), (1, Some(0))])),
+    ),
+    // an empty part has nothing
+    (ITSELF, 0, Search::Loop(EVEN), None),
+    (ITSELF, 0, Search::Solitaire, None),
+];
+
+#[test]
+fn loops_and_solitaire_parts_are_found_after_a_refusal(rt: HostRuntime) {
+    for case in CASES {
+        assert_case(&rt, rt.alloc(), case);
+    }
+}
+
+/// What a search for Even answers: whether it gives up, and the rows that it finds.
+type Answer<'a> = (bool, &'a [Row]);
+
+const NOTHING: Answer = (false, &[]);
+
+const GIVES_UP: Answer = (true, &[]);
+
+/// A game, the members of its part, whether vertex 1 is a seed beside vertex 0, the bound, the budget, and
+/// the answer.
+type SmallCase<'a> = (&'a [Vertex<'a>], u32, bool, u32, u64, Answer<'a>);
+
+fn from_first(rt: &impl Abort, alloc: Global, inside: &Inside, bound: u32, budget: u64) -> Small {
+    assert!(*rt; 0 < inside.game().len());
+    assert!(*rt; 1 <= bound && bound <= 8);
+    made(
+        rt,
+        twice!(find_small(alloc, inside, EVEN, [0].as_slice(), bound, budget)),
+    )
+}
+
+fn from_both(rt: &impl Abort, alloc: Global, inside: &Inside, bound: u32, budget: u64) -> Small {
+    assert!(*rt; 1 < inside.game().len());
+    assert!(*rt; 1 <= bound && bound <= 8);
+    made(
+        rt,
+        twice!(find_small(alloc, inside, EVEN, [0, 1].as_slice(), bound, budget)),
+    )
+}
+
+fn answer_of(small: &Small) -> Answer<'_> {
+    match small {
+        Small::Found(claim) => (false, claim.rows.as_slice()),
+        Small::Nothing => NOTHING,
+        Small::GaveUp => GIVES_UP,
+    }
+}
+
+fn assert_answer(rt: &impl Abort, alloc: Global, inside: &Inside, case: &SmallCase) {
+    let (_, _, is_both, bound, budget, want) = *case;
+    let small = if is_both {
+        from_both(rt, alloc, inside, bound, budget)
+    } else {
+        from_first(rt, alloc, inside, bound, budget)
+    };
+    check_eq!(*rt; answer_of(&small), want, (bound, budget));
+}
+
+fn assert_small(rt: &impl Abort, alloc: Global, case: &SmallCase) {
+    let game = game(rt, alloc, case.0);
+    let inside = part(rt, alloc, &game, case.1);
+    assert_answer(rt, alloc, &inside, case);
+}
+
+const FORCED: &[Vertex] = &[(0, ODD, &[1]), (2, EVEN, &[0])];
+
+const FORCED_ROWS: Answer = (false, &[(0, None), (1, Some(0))]);
+
+const BOTH_CHOSEN: &[Vertex] = &[(1, EVEN, &[0, 1]), (1, EVEN, &[0, 1])];
+
+const THREE: &[Vertex] = &[(0, EVEN, &[1]), (0, EVEN, &[2]), (0, EVEN, &[0])];
+
+const THREE_ROWS: Answer = (false, &[(0, Some(1)), (1, Some(2)), (2, Some(0))]);
+
+const TWO_LOOPS: &[Vertex] = &[(0, EVEN, &[0]), (1, EVEN, &[1])];
+
+const FIRST_ROW: Answer = (false, &[(0, Some(0))]);
+
+const TO_A_BAD_CYCLE: &[Vertex] = &[(1, EVEN, &[1]), (1, EVEN, &[2]), (1, EVEN, &[1])];
+
+const SMALL_CASES: &[SmallCase] = &[
+    // an empty part has nothing
+    (ITSELF, 0, false, 4, 100, NOTHING),
+    // a forced vertex needs a bound of two and one choice
+    (FORCED, ALL, false, 2, 1_000, FORCED_ROWS),
+    (FORCED, ALL, false, 8, 2, FORCED_ROWS),
+    (FORCED, ALL, false, 1, 1_000, NOTHING),
+    // a budget is used to the last choice, and one that covers all choices does not give up
+    (ITSELF, ALL, false, 1, 1, FIRST_ROW),
+    (ITSELF, ALL, false, 1, 0, GIVES_UP),
+    (BOTH_CHOSEN, ALL, false, 2, 6, NOTHING),
+    (BOTH_CHOSEN, ALL, false, 2, 4, NOTHING),
+    (BOTH_CHOSEN, ALL, false, 2, 3, GIVES_UP),
+    (THREE, ALL, false, 3, 3, THREE_ROWS),
+    (THREE, ALL, false, 3, 2, GIVES_UP),
+    (THREE, ALL, false, 2, 2, NOTHING),
+    (THREE, ALL, false, 2, 1, GIVES_UP),
+    // seeds share the budget
+    (TWO_LOOPS, ALL, true, 8, 2, FIRST_ROW),
+    (TWO_LOOPS, ALL, true, 8, 1, GIVES_UP),
+    // a seed that was searched is not searched again: two choices from vertex 1, and then one from vertex 0
+    (TO_A_BAD_CYCLE, ALL, true, 8, 3, NOTHING),
+    (TO_A_BAD_CYCLE, ALL, true, 8, 2, GIVES_UP),
+    // eight vertices are the most
+    (EIGHT, ALL, false, 8, 8, (false, EIGHT_ROWS)),
+    (NINE, ALL, false, 8, 1_000, NOTHING),
+];
+
+#[test]
+fn a_small_search_keeps_to_its_bound_and_its_budget_after_a_refusal(rt: HostRuntime) {
+    for case in SMALL_CASES {
+        assert_small(&rt, rt.alloc(), case);
+    }
+}
+
+/// A search of all of a game that is elsewhere.
+const AMONG_MANY: SmallCase = (&[], ALL, false, 8, 10_000, GIVES_UP);
+
+#[test]
+fn a_search_among_too_many_choices_gives_up_after_a_refusal(rt: HostRuntime) {
+    let game = dense(&rt, rt.alloc());
+    let inside = whole(&rt, rt.alloc(), &game);
+    assert_answer(&rt, rt.alloc(), &inside, &AMONG_MANY);
 }
 
 /// Even wins the first three vertices, in which Odd chooses nothing, and Odd the others.
@@ -88,126 +232,23 @@ const VERTICES: &[Vertex] = &[
     (0, ODD, &[3]),
 ];
 
-fn solved_twice(rt: &impl Abort, alloc: Global, inside: &Inside) -> Solved {
-    match zielonka(alloc, inside) {
-        Ok(solved) => solved,
-        Err(_) => zielonka(alloc, inside).expect(rt, "memory"),
-    }
-}
-
-/// The claim is the player's, of these vertices.
-fn compare_vertices(rt: &impl Abort, claim: &Claim, player: Player, vertices: &[u32]) {
-    let rows = claim.rows.as_slice();
-    check_eq!(*rt; (claim.player, rows.len()), (player, vertices.len()));
-    let mut at = 0usize;
-    for row in rows {
-        check_eq!(*rt; Some(&row.0), vertices.get(at));
-        at = at.wrapping_add(1);
-    }
-}
-
-const EVENS: &[u32] = &[0, 1, 2];
-
-const ODDS: &[u32] = &[3, 4];
-
-fn compare_solved(rt: &impl Abort, solved: &Solved) {
-    compare_vertices(rt, &solved.even, EVEN, EVENS);
-    compare_vertices(rt, &solved.odd, ODD, ODDS);
+fn sizes(solved: &Solved) -> (usize, usize) {
+    (
+        solved.even.rows.as_slice().len(),
+        solved.odd.rows.as_slice().len(),
+    )
 }
 
 #[test]
-fn a_game_is_solved_after_a_refusal(rt: HostRuntime) -> Result<(), Fail> {
-    after_a_refusal(&rt, rt.alloc(), VERTICES, Call::Solve)
-}
-
-fn loop_twice(rt: &impl Abort, alloc: Global, inside: &Inside, player: Player) -> Option<Claim> {
-    match find_loop(alloc, inside, player) {
-        Ok(found) => found,
-        Err(_) => find_loop(alloc, inside, player).expect(rt, "memory"),
-    }
-}
-
-/// A claim of the player's of these rows was found.
-fn compare_rows(rt: &impl Abort, found: &Option<Claim>, player: Player, rows: &[Row]) {
-    check_eq!(*rt; told_of(found), Some((player, rows)));
-}
-
-const EVENS_LOOP: &[Row] = &[(0, Some(0))];
-
-const ODDS_LOOP: &[Row] = &[(3, Some(3))];
-
-fn compare_loops(rt: &impl Abort, alloc: Global, inside: &Inside) {
-    compare_rows(rt, &loop_twice(rt, alloc, inside, EVEN), EVEN, EVENS_LOOP);
-    compare_rows(rt, &loop_twice(rt, alloc, inside, ODD), ODD, ODDS_LOOP);
-}
-
-#[test]
-fn loops_are_found_after_a_refusal(rt: HostRuntime) -> Result<(), Fail> {
-    after_a_refusal(&rt, rt.alloc(), VERTICES, Call::Loops)
-}
-
-fn solitaire_twice(rt: &impl Abort, alloc: Global, inside: &Inside) -> Option<Claim> {
-    match find_solitaire(alloc, inside) {
-        Ok(found) => found,
-        Err(_) => find_solitaire(alloc, inside).expect(rt, "memory"),
-    }
-}
-
-/// Odd has one successor at each vertex of his, and Even wins all by following the cycle.
-const SOLITAIRE: &[Vertex] = &[(1, EVEN, &[0, 1]), (1, EVEN, &[2]), (4, ODD, &[0])];
-
-const ROUND: &[Row] = &[(0, Some(1)), (1, Some(2)), (2, None)];
-
-fn compare_solitaire(rt: &impl Abort, alloc: Global, inside: &Inside) {
-    compare_rows(rt, &solitaire_twice(rt, alloc, inside), EVEN, ROUND);
-}
-
-#[test]
-fn a_solitaire_game_is_solved_after_a_refusal(rt: HostRuntime) -> Result<(), Fail> {
-    after_a_refusal(&rt, rt.alloc(), SOLITAIRE, Call::Solitaire)
-}
-
-/// A search for Odd from the last vertex, of at most two vertices.
-fn small_twice(rt: &impl Abort, alloc: Global, inside: &Inside, seed: u32) -> Small
-    requires { seed < length inside.now.graph }
-{
-    match find_small(alloc, inside, ODD, &[seed], 2, 100) {
-        Ok(found) => found,
-        Err(_) => find_small(alloc, inside, ODD, &[seed], 2, 100).expect(rt, "memory"),
-    }
-}
-
-const LAST: &[Row] = &[(3, Some(3)), (4, Some(3))];
-
-fn compare_small(rt: &impl Abort, alloc: Global, inside: &Inside) {
-    assert!(*rt; 4 < inside.game().len());
-    match small_twice(rt, alloc, inside, 4) {
-        Small::Found(claim) => compare_rows(rt, &Some(claim), ODD, LAST),
-        _ => panic!(*rt; "nothing was found"),
-    }
-}
-
-#[test]
-fn a_small_dominion_is_found_after_a_refusal(rt: HostRuntime) -> Result<(), Fail> {
-    after_a_refusal(&rt, rt.alloc(), VERTICES, Call::Small)
-}
-
-fn found_twice(rt: &impl Abort, alloc: Global, copied: &Copied, job: &Job) -> Found {
-    match Standard.find(alloc, copied, job) {
-        Ok(found) => found,
-        Err(_) => Standard.find(alloc, copied, job).expect(rt, "memory"),
-    }
+fn a_game_is_solved_after_a_refusal(rt: HostRuntime) {
+    let game = game(&rt, rt.alloc(), VERTICES);
+    let inside = whole(&rt, rt.alloc(), &game);
+    let solved = made(&rt, twice!(zielonka(rt.alloc(), &inside)));
+    check_eq!(rt; sizes(&solved), (3, 2));
 }
 
 /// The claims that the product's finder gives for a job: their players, and how many vertices they have.
 type Given<'a> = (Job, &'a [(Player, usize)]);
-
-const GIVEN: &[Given] = &[
-    (Job::Loops, &[(EVEN, 1), (ODD, 1)]),
-    (Job::Solitaire, &[]),
-    (SMALL, &[(ODD, 2)]),
-    (Job::Recursion, &[(EVEN, 3), (ODD, 2)]),
-];
 
 const SMALL: Job = Job::Small {
     player: ODD,
@@ -217,11 +258,18 @@ const SMALL: Job = Job::Small {
     budget: 100,
 };
 
+const GIVEN: &[Given] = &[
+    (Job::Loops, &[(EVEN, 1), (ODD, 1)]),
+    (Job::Solitaire, &[]),
+    (SMALL, &[(ODD, 2)]),
+    (Job::Recursion, &[(EVEN, 3), (ODD, 2)]),
+];
+
 fn compare_size(rt: &impl Abort, claim: &Claim, size: Option<&(Player, usize)>) {
     check_eq!(*rt; Some(&(claim.player, claim.rows.as_slice().len())), size);
 }
 
-fn compare_found(rt: &impl Abort, found: &Found, given: &Given) {
+fn compare_given(rt: &impl Abort, found: &Found, given: &Given) {
     check_eq!(*rt; (found.gave_up, found.claims.len()), (false, given.1.len()), given.0);
     let mut at = 0usize;
     for claim in found.claims.as_slice() {
@@ -230,13 +278,16 @@ fn compare_found(rt: &impl Abort, found: &Found, given: &Given) {
     }
 }
 
-fn compare_jobs(rt: &impl Abort, alloc: Global, copied: &Copied) {
-    for given in GIVEN {
-        compare_found(rt, &found_twice(rt, alloc, copied, &given.0), given);
-    }
+fn compare_job(rt: &impl Abort, alloc: Global, copied: &Copied, given: &Given) {
+    let found = made(rt, twice!(Standard.find(alloc, copied, &given.0)));
+    compare_given(rt, &found, given);
 }
 
 #[test]
-fn each_job_is_done_after_a_refusal(rt: HostRuntime) -> Result<(), Fail> {
-    after_a_refusal(&rt, rt.alloc(), VERTICES, Call::Jobs)
+fn each_job_is_done_after_a_refusal(rt: HostRuntime) {
+    let game = game(&rt, rt.alloc(), VERTICES);
+    let copied = whole_copy(&rt, rt.alloc(), &game);
+    for given in GIVEN {
+        compare_job(&rt, rt.alloc(), &copied, given);
+    }
 }

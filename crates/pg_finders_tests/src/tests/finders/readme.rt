@@ -5,7 +5,7 @@ ghost use Rattle.std.specs.Prelude.{◌≡◌, ◌<◌, length};
 use crate::tests::finders::games::{game, mask};
 use pg_finders::{Inside, Small, find_small, zielonka};
 use pg_game::{Game, Mask, Player};
-use pg_test_support::{EVEN, ODD, Vertex};
+use pg_test_support::{EVEN, ODD, Vertex, check_eq};
 use std::alloc::{AllocError, Global};
 use std::process::Abort;
 

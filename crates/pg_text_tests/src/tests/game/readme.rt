@@ -6,6 +6,7 @@ ghost use Rattle.pg_game.specs.Specification.{AreNumbers};
 use crate::tests::asserting::made;
 use crate::tests::game::{EXPECTED_IN_ORDER, IN_ORDER, look, specs_of};
 use pg_game::{ForwardGame, Game, GameBuilder, GameFault, IncrementalBuilder, Player, Spec};
+use pg_test_support::check_eq;
 use std::alloc::Global;
 use std::test::Fail;
 

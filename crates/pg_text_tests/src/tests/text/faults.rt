@@ -2,6 +2,7 @@
 
 use crate::tests::asserting::made;
 use pg_game::GameFault;
+use pg_test_support::check_eq;
 use pg_text::{SolutionTextFault, TextFault};
 use std::alloc::Global;
 use std::fmt::Display;
@@ -36,6 +37,7 @@ const LINES: &[(TextFault, &str)] = &[
         TextFault::Game(GameFault::Unknown(0, 7)),
         "vertex 0: successor 7 is not specified",
     ),
+    (TextFault::Game(GameFault::Memory), "no memory"),
     (TextFault::Memory, "no memory"),
 ];
 

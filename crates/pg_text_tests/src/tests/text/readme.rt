@@ -3,6 +3,7 @@
 ghost use Rattle.std.specs.Prelude.{◌≤◌, length};
 ghost use Rattle.pg_text.specs.Reading.{max_text};
 
+use pg_test_support::check_eq;
 use pg_text::{TextFault, read_game, write_game};
 use std::alloc::Global;
 

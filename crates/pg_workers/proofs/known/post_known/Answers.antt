@@ -1,5 +1,5 @@
 use Rattle.pg_workers.proofs.Common.{rules, ◌≡◌, ◌<◌, ◌≤◌, ◌∙◌, length, sym, ap, subst, Graph, ClaimRows, known_rows, IsKnownFault, SolveFault}
-use Rattle.pg_workers.specs.private.Known.{fault_of}
+use Rattle.pg_workers.specs.private.KnownPosts.{fault_of}
 use Rattle.pg_workers.proofs.KnownSets.{settles_nothing, settles_known, refused_known}
 use Rattle.pg_workers.proofs.known.post_known.Goals as goal
 
@@ -35,5 +35,5 @@ returns-clause-fault c =
     let some : 0 < length claim.rows = search rules in let post = c.in-Err.ensures in
     let fault = refused_known old.graph c.game-before.ensures.board.game known sized c.args.player old.journal c.requires.none c.post.new.self c.in-Err.refusal
     claim c.in_ok-claim.ensures.player is some (post.refused, post.old_copies) in
-    subst (λ (e : SolveFault). IsKnownFault c.args.of.now.game.now old.journal known c.args.player e) (sym c.refused.ensures)
+    subst (λ (e : SolveFault). IsKnownFault c.args.of.now.game.now old.journal known c.args.player e) (sym c.solve_fault.ensures)
     (subst (λ (g : Graph). IsKnownFault g old.journal known c.args.player (fault_of c.args.player c.in-Err.refusal)) c.requires.game fault)

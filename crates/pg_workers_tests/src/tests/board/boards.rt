@@ -224,7 +224,7 @@ fn compare_case(rt: &impl Abort, alloc: Global, call: Call, case: &Case) {
 }
 
 /// The answer to a claim.
-pub fn compare_answer(rt: &impl Abort, alloc: Global, call: Call, board: &mut Board, put: &Put) {
+fn compare_answer(rt: &impl Abort, alloc: Global, call: Call, board: &mut Board, put: &Put) {
     let claim = claim_of(rt, alloc, put.0, put.1);
     check_eq!(*rt; call.put(alloc, board, &claim), put.2);
 }

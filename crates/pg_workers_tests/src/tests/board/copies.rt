@@ -114,7 +114,7 @@ type Late<'a> = (&'a [Vertex<'a>], &'a [(Player, &'a [Row])]);
 
 const LATE: &[Late] = &[
     (SHARED, &[(EVEN, &[(0, Some(0))]), (ODD, &[(2, Some(2))])]),
-    (SHARED, &[(ODD, &[(2, Some(2))]), (EVEN, &[(0, Some(0))])]),
+    // what is found for Even is posted late, and settles the rest
     (SHARED, &[(ODD, &[(2, Some(2))])]),
     (WINDING, &[]),
     (

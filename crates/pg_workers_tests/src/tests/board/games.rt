@@ -78,15 +78,3 @@ pub fn claim_of(rt: &impl Abort, alloc: Global, player: Player, rows: &[Row]) ->
         rows: Sequence::new(rows),
     }
 }
-
-/// Even's claim of this many vertices, each of which is chosen at itself.
-pub fn claim_of_loops(rt: &impl Abort, alloc: Global, n: u32) -> Claim {
-    let mut rows = Vec::new(alloc);
-    for v in 0..n {
-        made(rt, rows.push((v, Some(v))));
-    }
-    Claim {
-        player: EVEN,
-        rows: Sequence::new(rows),
-    }
-}

@@ -6,7 +6,7 @@
 
 use crate::tests::asserting::made;
 use crate::tests::board::boards::{
-    Case, EVENS, FULL, HALF, NEW, ODDS, Put, compare_board, compare_copy, compare_entries,
+    Case, EVENS, FULL, HALF, NEW, ODDS, Put, compare_board, compare_entries,
 };
 use crate::tests::board::calls::Call;
 use crate::tests::board::games::{SHARED, WIDE, claim_of, game_made, new_board};

@@ -5,16 +5,12 @@ ghost use Rattle.std.specs.Prelude.{◌≡◌, ◌≤◌, IfOk, vec_len};
 use crate::tests::asserting::made;
 use crate::tests::board::boards::{Case, FULL, HALF, LAYERS, NEW, compare_copy};
 use crate::tests::board::calls::Call;
-use crate::tests::board::games::{
-    DIVIDED, LAYERED, SHARED, claim_of, claim_of_loops, game_made, new_board,
-};
+use crate::tests::board::games::{DIVIDED, LAYERED, SHARED, claim_of, game_made, new_board};
 use pg_board::{Board, Office, Refusal, Share};
-use pg_dominion::{Claim, ClaimFault};
 use pg_finders::Copied;
 use pg_game::{Game, Memory, Player};
-use pg_test_support::{EVEN, ODD, Row, Vertex, lacking, own_loops};
+use pg_test_support::{EVEN, ODD, Row, Vertex, lacking};
 use std::alloc::Global;
-use std::marker::Brand;
 use std::process::Abort;
 use std::sync::Wait;
 use std::sync::ledger::{Blank, Ledger};
@@ -29,8 +25,6 @@ enum Step<'a> {
     Put(Put<'a>),
     /// A claim that was checked on another game, and is settled.
     Foreign(&'a [Vertex<'a>], Put<'a>),
-    /// Even's claim of all vertices of a game of loops, each of which is settled.
-    Loops,
     /// The amount.
     Amount(u64),
     /// A copy.
@@ -54,47 +48,26 @@ pub struct Run<'a> {
 
 const STALE: Result<u32, Refusal> = Err(Refusal::Stale);
 
-// The answer to a claim with a bad closed walk.
-macro_rules! bad_walk {
-    ($v:expr) => {
-        Err(Refusal::Claim(ClaimFault::Cycle($v)))
-    };
-}
-
 pub const RUNS: &[Run] = &[
-    // a copy has what was settled through the share
+    // a copy has what was settled through the share; a claim that is lost or stale leaves the board as it is
     Run {
         game: SHARED,
         posted: None,
         first: NEW,
         seats: 2,
         steps: &[
+            (0, Step::Copy(NEW)),
             (0, Step::Put((1, EVEN, (0, Some(0)), Ok(2), 2, HALF))),
             (0, Step::Copy(HALF)),
+            (
+                1,
+                Step::Put((2, ODD, (1, Some(0)), Err(Refusal::Lost(1)), 0, HALF)),
+            ),
             (1, Step::Put((2, ODD, (2, Some(2)), Ok(1), 1, FULL))),
             (1, Step::Put((2, ODD, (2, Some(2)), STALE, 1, FULL))),
             (0, Step::Copy(FULL)),
         ],
         closed: (3, true, (0, 2, 1)),
-    },
-    // what is settled through all shares adds up: each vertex alone is claimed for each player, through a share of its own
-    Run {
-        game: SHARED,
-        posted: None,
-        first: NEW,
-        seats: 3,
-        steps: &[
-            (0, Step::Put((1, EVEN, (0, Some(0)), Ok(2), 2, HALF))),
-            (0, Step::Put((1, ODD, (0, None), bad_walk!(0), 2, HALF))),
-            (1, Step::Put((1, EVEN, (1, None), STALE, 0, HALF))),
-            (
-                1,
-                Step::Put((1, ODD, (1, Some(0)), Err(Refusal::Lost(1)), 0, HALF)),
-            ),
-            (2, Step::Put((1, EVEN, (2, None), bad_walk!(2), 0, HALF))),
-            (2, Step::Put((1, ODD, (2, Some(2)), Ok(1), 1, FULL))),
-        ],
-        closed: (3, true, (0, 3, 0)),
     },
     // a claim that was checked on another game is foreign, and the same claim may be accepted
     Run {
@@ -114,24 +87,6 @@ pub const RUNS: &[Run] = &[
         ],
         closed: (3, true, (0, 3, 0)),
     },
-    // claims that are stale or lost leave the board as it is
-    Run {
-        game: SHARED,
-        posted: None,
-        first: NEW,
-        seats: 2,
-        steps: &[
-            (0, Step::Copy(NEW)),
-            (0, Step::Put((1, EVEN, (0, Some(0)), Ok(2), 2, HALF))),
-            (1, Step::Put((2, EVEN, (0, Some(0)), STALE, 0, HALF))),
-            (
-                1,
-                Step::Put((2, ODD, (1, Some(0)), Err(Refusal::Lost(1)), 0, HALF)),
-            ),
-            (1, Step::Copy(HALF)),
-        ],
-        closed: (2, false, (0, 2, 0)),
-    },
     // an office opens with a board with what is settled on it
     Run {
         game: SHARED,
@@ -146,25 +101,6 @@ pub const RUNS: &[Run] = &[
         closed: (2, false, (2, 0, 0)),
     },
 ];
-
-/// The largest claim of the largest game.
-const LARGEST: &Run = &Run {
-    game: &[],
-    posted: None,
-    first: NEW,
-    seats: 1,
-    steps: &[(0, Step::Loops)],
-    closed: (1_048_576, true, (0, 1_048_576, 0)),
-};
-
-#[test]
-fn the_largest_claim_of_the_largest_game_is_accepted(rt: HostRuntime) -> Result<(), Fail> {
-    let game = made(&rt, own_loops(rt.alloc(), 1_048_576));
-    for call in [Call::Post, Call::Settle] {
-        run_through::<Brand, _>(&rt, rt.alloc(), Blank::new(1), 1, call, &game, LARGEST)?;
-    }
-    Ok(())
-}
 
 /// Takes the steps in an office of a board of the game; ends the test where memory is refused to the office.
 pub fn run_through<L: Ledger, R: Wait + Abort>(
@@ -275,28 +211,13 @@ fn take<'g, L: Ledger, R: Wait + Abort>(
             let other = game_made(rt, alloc, *vertices);
             put_row(rt, alloc, Call::Settle, &other, office, share, before, put);
         }
-        Step::Loops => {
-            let n = game.len();
-            let claim = claim_of_loops(rt, alloc, n);
-            put_claim(
-                rt,
-                alloc,
-                call,
-                game,
-                office,
-                share,
-                1,
-                &claim,
-                before,
-                (Ok(n), u64::from(n)),
-            );
-        }
         Step::Amount(want) => check_eq!(*rt; share.amount(), *want),
         Step::Copy(want) => compare_copy(rt, &copied_through(rt, alloc, office, share), *want),
     }
 }
 
-/// Puts a claim of one row, which is checked on this game.
+/// Puts a claim of one row, which is checked on this game. Compares the answer, and the share's amount and a copy then. Where
+/// memory is refused, the amount and a copy are as before, and the claim is put once more.
 fn put_row<L: Ledger, R: Wait + Abort>(
     rt: &R,
     alloc: Global,
@@ -308,43 +229,15 @@ fn put_row<L: Ledger, R: Wait + Abort>(
     put: &Put,
 ) {
     let claim = claim_of(rt, alloc, put.1, &[put.2]);
-    put_claim(
-        rt,
-        alloc,
-        call,
-        game,
-        office,
-        share,
-        put.0,
-        &claim,
-        before,
-        (put.3, put.4),
-    );
-    compare_copy(rt, &copied_through(rt, alloc, office, share), put.5);
-}
-
-/// Compares the answer, and the share's amount then. Where memory is refused, the amount and a copy are as before, and the
-/// claim is put once more.
-fn put_claim<L: Ledger, R: Wait + Abort>(
-    rt: &R,
-    alloc: Global,
-    call: Call,
-    game: &Game,
-    office: &Office<L>,
-    share: &mut Share<L>,
-    worker: u32,
-    claim: &Claim,
-    before: &Case,
-    want: (Result<u32, Refusal>, u64),
-) {
     let amount = share.amount();
-    let mut found = call.put_through(rt, alloc, office, share, worker, game, claim);
+    let mut found = call.put_through(rt, alloc, office, share, put.0, game, &claim);
     if found == Err(Refusal::Memory) {
         check_eq!(*rt; share.amount(), amount);
         compare_copy(rt, &copied_through(rt, alloc, office, share), before);
-        found = call.put_through(rt, alloc, office, share, worker, game, claim);
+        found = call.put_through(rt, alloc, office, share, put.0, game, &claim);
     }
-    check_eq!(*rt; (found, share.amount()), want);
+    check_eq!(*rt; (found, share.amount()), (put.3, put.4));
+    compare_copy(rt, &copied_through(rt, alloc, office, share), put.5);
 }
 
 /// A copy through a share, taken once more where memory was refused.

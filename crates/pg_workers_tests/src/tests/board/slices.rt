@@ -2,12 +2,10 @@
 
 use crate::tests::asserting::made;
 use crate::tests::board::games::plain_game;
-use crate::tests::board::random::random_claim;
-use crate::tests::board::sessions::digest_of;
 use pg_board::{Entry, Session};
 use pg_dominion::Claim;
 use pg_game::{Player, Sequence};
-use pg_test_support::{EVEN, ODD, Plain, Random, bit};
+use pg_test_support::{EVEN, ODD, Plain, Random, Row, bit, has, size_of};
 use std::alloc::Global;
 use std::process::Abort;
 
@@ -24,6 +22,67 @@ fn large_game(rt: &impl Abort, alloc: Global, random: &mut Random) -> Vec<Plain>
         made(rt, vertices.push((random.below(10), owner, successors)));
     }
     vertices
+}
+
+/// Mostly a member of a set of numbers below `n`.
+fn random_member(random: &mut Random, set: u32, n: u32) -> u32 {
+    for _try in 0..32 {
+        let v = random.below(n);
+        if has(set, v) {
+            return v;
+        }
+    }
+    0
+}
+
+/// A claim of random vertices, mostly with right rows.
+fn random_claim(rt: &impl Abort, alloc: Global, random: &mut Random, game: &[Plain]) -> Claim {
+    let player = if random.below(2) == 0 { EVEN } else { ODD };
+    let density = random.below(4);
+    let mut rows = Vec::new(alloc);
+    let mut v = 0u32;
+    for vertex in game {
+        if random.below(4) <= density {
+            let mut choice = None;
+            if vertex.1 == player {
+                choice = Some(random_member(random, vertex.2, size_of(game)));
+            }
+            made(rt, rows.push((v, choice)));
+        }
+        v = v.saturating_add(1);
+    }
+    Claim {
+        player,
+        rows: Sequence::new(rows),
+    }
+}
+
+/// A number that changes with whatever an entry says.
+fn digest_of(entries: &[Entry]) -> u64 {
+    let mut digest = 1u64;
+    for entry in entries {
+        digest = mixed(digest, entry.worker);
+        digest = mixed(digest, u32::from(entry.player == ODD));
+        digest = mixed(digest, entry.claimed);
+        digest = with_rows(digest, entry.rows.as_slice());
+    }
+    digest
+}
+
+fn with_rows(mut digest: u64, rows: &[Row]) -> u64 {
+    for row in rows {
+        digest = mixed(digest, row.0);
+        digest = mixed(digest, row.1.unwrap_or(u32::MAX));
+    }
+    digest
+}
+
+fn mixed(digest: u64, number: u32) -> u64 {
+    digest
+        .wrapping_add(u64::from(number))
+        .wrapping_add(1)
+        .wrapping_mul(6_364_136_223_846_793_005)
+        .rotate_left(29)
 }
 
 fn session_of(rt: &impl Abort, alloc: Global, plain: &[Plain]) -> Session {

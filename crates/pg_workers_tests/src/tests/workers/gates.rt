@@ -2,8 +2,7 @@
 
 use pg_test_support::{Random, bit, has};
 use pg_workers::Gate;
-use std::sync::{Condvar, Mutex, OnceLock, Wait};
-use std::thread;
+use std::sync::{Condvar, Mutex, Wait};
 
 /// How often a held worker looks whether it may continue before it gives up.
 const TURNS: u64 = 10_000_000;
@@ -140,61 +139,15 @@ impl Gate for Alternating {
     }
 }
 
-/// Holds every worker but the last at `found` until the last one has posted.
-#[derive(Drop)]
-pub struct LastFirst {
-    last: u32,
-    has_posted: OnceLock<()>,
-    has_given_up: OnceLock<()>,
-}
-
-impl LastFirst {
-    pub fn new(last: u32) -> LastFirst {
-        LastFirst {
-            last,
-            has_posted: OnceLock::new(),
-            has_given_up: OnceLock::new(),
-        }
-    }
-
-    /// Whether a worker looked for the last one's post too often.
-    pub fn gave_up(&self) -> bool {
-        self.has_given_up.get().is_some()
-    }
-}
-
-impl Gate for LastFirst {
-    fn found<R: Wait>(&self, _rt: &R, worker: u32, _job: u64) {
-        if worker == self.last {
-            return;
-        }
-        for _ in 0..TURNS {
-            if self.has_posted.get().is_some() {
-                return;
-            }
-            thread::yield_now();
-        }
-        let _ = self.has_given_up.try_set(());
-    }
-
-    fn posted<R: Wait>(&self, _rt: &R, worker: u32, _job: u64) {
-        if worker == self.last {
-            let _ = self.has_posted.try_set(());
-        }
-    }
-}
-
 /// Who is held in a call, how many workers are in none, and how many jobs are still to be reported.
 #[derive(Drop)]
-pub struct Turn {
+struct Turn {
     random: Random,
     workers: u32,
     in_found: u32,
     in_posted: u32,
     under_way: u32,
     jobs_left: u32,
-    /// A number for the order in which workers went on.
-    pub order: u64,
 }
 
 impl Turn {
@@ -219,9 +172,6 @@ impl Turn {
     /// One of those that are held continues.
     fn go_on(&mut self) {
         let worker = self.next();
-        let phase = u64::from(has(self.in_posted, worker));
-        let event = u64::from(worker).wrapping_mul(2).wrapping_add(phase);
-        self.order = self.order.wrapping_mul(1_000_003).wrapping_add(event);
         self.in_found &= !bit(worker);
         self.in_posted &= !bit(worker);
         self.under_way = 1;
@@ -244,7 +194,7 @@ impl Turn {
 /// the machine has to do. Each worker has to start, and there have to be as many jobs.
 #[derive(Drop)]
 pub struct Turns {
-    pub turn: Mutex<Turn>,
+    turn: Mutex<Turn>,
     change: Condvar,
 }
 
@@ -258,7 +208,6 @@ impl Turns {
                 in_posted: 0,
                 under_way: workers,
                 jobs_left: jobs,
-                order: 0,
             }),
             change: Condvar::new(),
         }

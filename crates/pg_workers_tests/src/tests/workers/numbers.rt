@@ -29,17 +29,13 @@ fn job_of(options: &Options, n: u32, number: u64) -> Option<Job>
 
 /// A bound, how many vertices there are, and how many jobs.
 const TOTALS: &[(u32, u32, u64)] = &[
-    (4, 1, 5),
     (4, 2, 5),
-    (4, 64, 5),
     (4, 65, 7),
     (4, 65_536, 2_051),
     (4, 130_944, 4_095),
     (4, 130_945, 2_051),
     (4, 1_048_576, 2_051),
-    (0, 1, 3),
     (0, 65, 3),
-    (0, 1_048_576, 3),
 ];
 
 fn compare_total(rt: &impl Abort, bound: u32, n: u32, want: u64) {
@@ -69,14 +65,9 @@ macro_rules! small {
 
 /// A bound, how many vertices there are, the number of a job, and the job.
 const JOBS: &[(u32, u32, u64, Job)] = &[
-    (4, 65, 0, Job::Loops),
-    (4, 65, 1, Job::Solitaire),
     (4, 65, 3, small!(ODD, 0, 64)),
     (4, 65, 4, small!(EVEN, 64, 1)),
     (4, 65, 6, Job::Recursion),
-    (4, 130_945, 2_048, small!(EVEN, 130_944, 1)),
-    (4, 1_048_576, 2_049, small!(ODD, 1_047_552, 1_024)),
-    (0, 65, 2, Job::Recursion),
 ];
 
 fn compare_job(rt: &impl Abort, bound: u32, n: u32, number: u64, want: Job) {

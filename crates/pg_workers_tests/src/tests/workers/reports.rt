@@ -1,12 +1,11 @@
 //! What the report says of each job, on runs with one worker.
 
-use crate::tests::workers::finders::{Fixed, Halting, Long, NoMemory, Singles};
-use crate::tests::workers::games::{outcome_of, two_loops};
-use pg_board::Entry;
-use pg_finders::{Copied, Finder, Found, Job, Standard};
-use pg_game::{Memory, Player};
-use pg_test_support::{EVEN, ODD, Row};
-use pg_workers::ReportRow;
+use crate::tests::workers::finders::{Fixed, Halting};
+use crate::tests::workers::games::{outcome_of, solved, two_loops};
+use pg_finders::{Finder, Standard};
+use pg_game::Player;
+use pg_test_support::{EVEN, ODD, Row, own_loops};
+use pg_workers::{Options, Pass, ReportRow};
 use std::alloc::Global;
 use std::process::Abort;
 use std::sync::Wait;
@@ -70,20 +69,6 @@ fn the_first_job_settles_both_loops(rt: HostRuntime) {
 
 const TWO_AND_TWO: Expected = ([0, 0, 2, 2], false, false);
 
-/// Of four claims two are good, and stale from then on; two have a bad closed walk.
-const SINGLES: [Expected; 5] = [
-    ([2, 2, 0, 2], false, false),
-    TWO_AND_TWO,
-    TWO_AND_TWO,
-    TWO_AND_TWO,
-    TWO_AND_TWO,
-];
-
-#[test]
-fn a_finder_of_single_vertices_is_answered_stale_and_refused(rt: HostRuntime) {
-    assert_rows(&rt, rt.alloc(), &Singles, &SINGLES);
-}
-
 const THREE_STALE: Expected = ([0, 0, 3, 0], false, false);
 
 type Case<'a> = (&'a [(Player, &'a [Row])], [Expected; 5]);
@@ -134,98 +119,32 @@ fn a_worker_goes_on_after_stale_and_refused_claims(rt: HostRuntime) {
     }
 }
 
-const ONE_STALE: Expected = ([0, 0, 1, 0], false, false);
-
-/// Three claims of a million rows each are refused, and the good one after them is posted.
-const LONG: [Expected; 5] = [
-    ([1, 1, 0, 3], false, false),
-    ONE_STALE,
-    ONE_STALE,
-    ONE_STALE,
-    ONE_STALE,
-];
-
-#[test]
-fn a_worker_goes_on_after_claims_of_a_million_rows(rt: HostRuntime) {
-    assert_rows(&rt, rt.alloc(), &Long { count: 1_000_000 }, &LONG);
-}
-
 const LACKED: Expected = ([0; 4], false, true);
 
-const NO_MEMORY: [Expected; 5] = [LACKED, LACKED, LACKED, LACKED, LACKED];
-
-#[test]
-fn memory_that_is_refused_in_each_search_is_noted(rt: HostRuntime) {
-    assert_rows(&rt, rt.alloc(), &NoMemory, &NO_MEMORY);
-}
-
-const HALTED: [Expected; 5] = [NOTHING, LACKED, ([0; 4], true, false), NOTHING, NOTHING];
+const HALTED: [Expected; 5] = [
+    NOTHING,
+    LACKED,
+    ([1, 1, 0, 0], true, false),
+    NOTHING,
+    NOTHING,
+];
 
 #[test]
 fn each_row_says_whether_its_search_gave_up_or_had_no_memory(rt: HostRuntime) {
     assert_rows(&rt, rt.alloc(), &Halting, &HALTED);
 }
 
-/// Claims Even's loop for each job, and says that it gave up.
-struct GivingUp;
-
-impl Finder for GivingUp {
-    fn find(&self, alloc: Global, copied: &Copied, job: &Job) -> Result<Found, Memory> {
-        let claims: &[(Player, &[Row])] = &[(EVEN, &[(0, Some(0))])];
-        let Found { claims, .. } = Fixed { claims, times: 1 }.find(alloc, copied, job)?;
-        Ok(Found {
-            claims,
-            gave_up: true,
-        })
-    }
-}
-
-const STALE_TOO: Expected = ([0, 0, 1, 0], true, false);
-
-const CLAIMED: [Expected; 5] = [
-    ([1, 1, 0, 0], true, false),
-    STALE_TOO,
-    STALE_TOO,
-    STALE_TOO,
-    STALE_TOO,
-];
+const FEW_JOBS: Options = Options {
+    workers: 1,
+    bound: 0,
+    budget: 0,
+};
 
 #[test]
-fn a_row_with_posts_says_that_its_search_gave_up(rt: HostRuntime) {
-    assert_rows(&rt, rt.alloc(), &GivingUp, &CLAIMED);
-}
-
-/// Worker, player and vertex of an entry with one row.
-fn expected(entry: &Entry) -> Option<(u32, Player, u32)> {
-    let row = entry.rows.as_slice().first()?;
-    Some((entry.worker, entry.player, row.0))
-}
-
-/// A worker posted both loops, Even's first.
-fn check_worker(rt: &impl Abort, entries: &[Entry], worker: u32) {
-    check_eq!(*rt; entries.len(), 2);
-    for (entry, (player, vertex)) in entries.iter().zip(&[(EVEN, 0), (ODD, 1)]) {
-        check_eq!(*rt; expected(entry), Some((worker, *player, *vertex)));
-    }
-}
-
-/// A run with one worker on the game of two winners is solved by this one, where 0 is the calling thread.
-fn assert_worker<R: Threads + Wait + Abort + Sync>(
-    rt: &R,
-    alloc: Global,
-    finder: &impl Finder,
-    worker: u32,
-) {
-    let outcome = outcome_of(rt, alloc, two_loops(), 1, finder);
-    check_worker(rt, outcome.entries.as_slice(), worker);
-}
-
-#[test]
-fn an_entry_names_the_worker_who_posted_it(rt: HostRuntime) {
-    assert_worker(&rt, rt.alloc(), &Standard, 1);
-}
-
-#[test]
-fn the_calling_thread_posts_evens_claim_and_then_odds(rt: HostRuntime) {
-    assert_worker(&rt, rt.alloc(), &NoMemory, 0);
+fn all_vertices_of_the_largest_game_are_settled_by_one_claim(rt: HostRuntime) {
+    let game = own_loops(rt.alloc(), 1_048_576).expect(&rt, "a game");
+    let outcome = solved(&rt, rt.alloc(), &game, &FEW_JOBS, &Pass, &Standard);
+    check_eq!(rt; outcome.entries.len(), 1);
+    let first = outcome.report.first().map(|row| (row.posted, row.settled));
+    check_eq!(rt; first, Some((1, 1_048_576)));
 }

@@ -1,12 +1,12 @@
 //! Workers run at once, whatever order they come in, and are given each job.
 
-use crate::tests::workers::finders::{AllLoops, Fixed, NoMemory, Recorder, Watcher, answer};
-use crate::tests::workers::games::{gated_outcome, run_on, solved, two_loops};
-use crate::tests::workers::gates::{Alternating, Holder, LastFirst, Seen};
+use crate::tests::workers::finders::{NoMemory, Recorder, Watcher, answer};
+use crate::tests::workers::games::{gated_outcome, solved, two_loops};
+use crate::tests::workers::gates::{Alternating, Holder, Seen};
 use pg_finders::{Copied, Finder, Found, Job, Standard};
-use pg_game::{Game, Memory};
+use pg_game::Memory;
 use pg_test_support::{EVEN, ODD, own_loops};
-use pg_workers::{Gate, Options, Pass, ReportRow};
+use pg_workers::{Gate, Options, Pass};
 use std::alloc::Global;
 use std::process::Abort;
 use std::sync::atomic::{AtomicU64, Ordering};
@@ -154,114 +154,4 @@ fn a_worker_is_given_each_job_in_order(rt: HostRuntime) {
     let recorder = Recorder::with_places(rt.alloc(), 8).expect(&rt, "memory");
     record(&rt, rt.alloc(), &recorder);
     compare_jobs(&rt, &recorder);
-}
-
-/// Vertices of 49 batches, so that there are 101 jobs.
-const MANY: u32 = 3_136;
-
-/// The job of this number, of 101.
-fn job_of_many(number: u32) -> Job {
-    match number {
-        0 => Job::Loops,
-        1 => Job::Solitaire,
-        100 => Job::Recursion,
-        _ => Job::Small {
-            player: if number % 2 == 0 { EVEN } else { ODD },
-            first: (number.wrapping_sub(2) / 2).wrapping_mul(64),
-            count: 64,
-            bound: 7,
-            budget: BUDGET,
-        },
-    }
-}
-
-/// Worker 1 drew the job of this number, and nothing was found.
-fn check_idle(rt: &impl Abort, row: &ReportRow, job: u64) {
-    let seen = (row.job, row.worker, row.posted, row.memory);
-    check_eq!(*rt; seen, (job, Some(1), 0, false));
-}
-
-#[test]
-fn one_worker_does_a_hundred_jobs_in_order(rt: HostRuntime) {
-    let recorder = Recorder::with_places(rt.alloc(), 101).expect(&rt, "memory");
-    let game = own_loops(rt.alloc(), MANY).expect(&rt, "a game");
-    let outcome = solved(&rt, rt.alloc(), &game, &ONE_WORKER, &Pass, &recorder);
-    check_eq!(rt; outcome.report.len(), 101);
-    for number in 0..101u32 {
-        let job = recorder
-            .jobs
-            .get(number as usize)
-            .and_then(|place| place.get());
-        check_eq!(rt; job.copied(), Some(job_of_many(number)));
-    }
-    let mut job = 0u64;
-    for row in outcome.report.as_slice() {
-        check_idle(&rt, row, job);
-        job = job.wrapping_add(1);
-    }
-}
-
-/// How many claims are made for a job, and whether its search gives up. No two of the 101 jobs have the same answer.
-fn answer_to(job: &Job) -> (u32, bool) {
-    match job {
-        Job::Loops => (100, false),
-        Job::Solitaire => (100, true),
-        Job::Small { player, first, .. } => (*first / 64, *player == ODD),
-        Job::Recursion => (99, true),
-    }
-}
-
-/// Answers each job in its own way: with claims without rows, which are refused.
-struct Distinct;
-
-impl Finder for Distinct {
-    fn find(&self, alloc: Global, copied: &Copied, job: &Job) -> Result<Found, Memory> {
-        let (times, gave_up) = answer_to(job);
-        let claims = &[(EVEN, [].as_slice())];
-        let Found { claims, .. } = Fixed { claims, times }.find(alloc, copied, job)?;
-        Ok(Found { claims, gave_up })
-    }
-}
-
-/// The row has what was answered to the job of its number.
-fn check_answer(rt: &impl Abort, row: &ReportRow) {
-    let found = (row.refused, row.gave_up);
-    let (count, gave_up) = answer_to(&job_of_many((row.job % 101) as u32));
-    check_eq!(*rt; found, (u64::from(count), gave_up), row.job);
-    check_eq!(*rt; [row.posted, row.settled, row.stale], [0; 3], row.job);
-    check!(*rt; !row.memory, row.job);
-}
-
-/// Each job of a number is searched for its row, with so many workers.
-fn check_rows_by<R: Threads + Wait + Abort + Sync>(
-    rt: &R,
-    alloc: Global,
-    game: &Game,
-    workers: u32,
-) {
-    let outcome = run_on(rt, alloc, game, workers, &Pass, &Distinct);
-    check_eq!(*rt; outcome.report.len(), 101);
-    for row in outcome.report.as_slice() {
-        check_answer(rt, row);
-    }
-}
-
-#[test]
-fn each_row_has_the_answer_to_the_job_of_its_number(rt: HostRuntime) {
-    let game = own_loops(rt.alloc(), MANY).expect(&rt, "a game");
-    for workers in [1, 3, 64] {
-        check_rows_by(&rt, rt.alloc(), &game, workers);
-    }
-}
-
-#[test]
-fn the_last_of_64_workers_posts_first_and_is_named(rt: HostRuntime) {
-    let game = own_loops(rt.alloc(), 2_048).expect(&rt, "a game");
-    let gate = LastFirst::new(64);
-    let outcome = run_on(&rt, rt.alloc(), &game, 64, &gate, &AllLoops);
-    check!(rt; !gate.gave_up());
-    check_eq!(rt; outcome.entries.len(), 1);
-    check_eq!(rt; outcome.entries.first().map(|entry| entry.worker), Some(64));
-    let named = outcome.report.iter().filter(|row| row.settled == 2_048);
-    check!(rt; named.map(|row| row.worker).eq([Some(64)]));
 }

@@ -7,7 +7,6 @@ use pg_game::Memory;
 use pg_test_support::own_loops;
 use pg_workers::Pass;
 use std::alloc::Global;
-use std::process::Abort;
 use std::sync::OnceLock;
 use std::thread;
 

@@ -29,12 +29,12 @@ returns-in-Err-clause-words c =
     let words = map (λ word. word.now) c.args.words.now in
     let has = subst (λ (r : Result ArgMatches Error). FailsBy (fault_of program words) r) c.in-Err.is
     (fails_by _ words c.try_get_matches_from.result c.in_ok-command.ensures c.try_get_matches_from.ensures.kinds) in
-    helped words c.in-Err.error c.refused.result has c.refused.ensures.text c.refused.ensures.kind
+    helped words c.in-Err.error c.help_or_fault.result has c.help_or_fault.ensures.text c.help_or_fault.ensures.kind
 
 pub returns-in-Err-clause-taken : goal.returns-in-Err-clause-taken
 returns-in-Err-clause-taken c takes_them asked is range =
     let words = map (λ word. word.now) c.args.words.now in
-    let memory = c.refused.ensures.memory (c.in-Err.ensures.passes (ap (λ (a : App). takes a words) c.in_ok-command.ensures ∙ takes_them)) in
+    let memory = c.help_or_fault.ensures.memory (c.in-Err.ensures.passes (ap (λ (a : App). takes a words) c.in_ok-command.ensures ∙ takes_them)) in
     search (rules, memory)
 
 pub returns-in-Ok-clause-helped : goal.returns-in-Ok-clause-helped
@@ -50,6 +50,6 @@ returns-in-Err-clause-helped c help =
     let has = subst (λ (r : Result ArgMatches Error). FailsBy (fault_of program words) r) c.in-Err.is
     (fails_by _ words c.try_get_matches_from.result c.in_ok-command.ensures c.try_get_matches_from.ensures.kinds) in
     elim (asked_for_help words c.in-Err.error has help) [
-      | inl memory ↦ let is = c.refused.ensures.memory memory in search (rules, is)
-      | inr kind ↦ c.refused.ensures.helped kind
+      | inl memory ↦ let is = c.help_or_fault.ensures.memory memory in search (rules, is)
+      | inr kind ↦ c.help_or_fault.ensures.helped kind
     ]

@@ -10,9 +10,9 @@ alone = on_top (λ s. record s { no_binary_name = true; has_version = true }) (n
 
 pub returns : goal.returns
 returns c =
-    let alone_is : app_of c.in_ok-command.command ≡ alone = search rules in
-    let solve = c.in_ok-command-2.ensures solve_command c.solve_command.ensures ∙ ap (λ (a : App). with_subcommand a solve_command) alone_is in
-    let trace = c.in_ok-command-3.ensures trace_command c.trace_command.ensures ∙ ap (λ (a : App). with_subcommand a trace_command) solve in
-    let verify = c.in_ok-command-4.ensures verify_command c.verify_command.ensures ∙ ap (λ (a : App). with_subcommand a verify_command) trace in
+    let alone_is : app_of c.in_ok-alone.alone ≡ alone = search rules in
+    let solve = c.in_ok-with_solve.ensures solve_command c.solve_command.ensures ∙ ap (λ (a : App). with_subcommand a solve_command) alone_is in
+    let trace = c.in_ok-with_trace.ensures trace_command c.trace_command.ensures ∙ ap (λ (a : App). with_subcommand a trace_command) solve in
+    let verify = c.in_ok-with_verify.ensures verify_command c.verify_command.ensures ∙ ap (λ (a : App). with_subcommand a verify_command) trace in
     IfOk-weaker c.with-4.result _ _ (λ command is. is ∙ ap (λ (a : App). with_subcommand a tidy_command) verify)
     (c.with-4.ensures tidy_command c.tidy_command.ensures)

@@ -32,7 +32,7 @@ returns-clause-writes g c =
       rows = subst (λ (workers : ℕ). IsReport workers report) c.options_of.ensures.workers outcome.rows;
       adds_up = subst (λ (n : ℕ). AddsUp n c.in_ok-outcome.outcome.entries.items report) none outcome.adds_up.2;
       text_is = c.in_ok-text.ensures
-          ∙ ap (λ (j : Journal). trace_text c.in_ok-game.game j c.as_slice.result.now) c.as_slice-entries.ensures.value
-          ∙ ap (λ (r : List ReportRow). trace_text c.in_ok-game.game c.in_ok-outcome.outcome.entries.items r) c.as_slice.ensures.value;
+          ∙ ap (λ (j : Journal). trace_text c.in_ok-game.game j c.as_slice-report.result.now) c.as_slice-entries.ensures.value
+          ∙ ap (λ (r : List ReportRow). trace_text c.in_ok-game.game c.in_ok-outcome.outcome.entries.items r) c.as_slice-report.ensures.value;
     } in
-    search (rules, made, c.in_ok-game.ensures.game, c.as_slice-2.ensures.value, c.write_all.ensures)
+    search (rules, made, c.in_ok-game.ensures.game, c.as_slice.ensures.value, c.write_all.ensures)
