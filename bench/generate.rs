@@ -321,6 +321,57 @@ fn recursive_ladder(levels: u32) -> Game {
     game
 }
 
+fn sorted(mut row: Vec<u32>) -> Vec<u32> {
+    row.sort_unstable();
+    row.dedup();
+    row
+}
+
+/// A game that is hard for priority promotion (Benerecetti, Dell'Erba and Mogavero, Solving Parity Games via Priority Promotion, 2016):
+/// for 4, 6, .. 14 levels it took 2^(levels - 2) + 1 promotions. With their later rule that a promotion resets regions of the other
+/// player alone (Improving Priority Promotion for Parity Games, 2016) it took the Fibonacci number of levels + 1. The recursion took
+/// twice the steps for each two levels. A search among small patterns found it; it is none of the authors' games. Each vertex is
+/// owned by the player for whom its priority is bad. A level has a low and a high priority. The low ones fall, and the high ones rise.
+fn promotions(levels: u32) -> Game {
+    let (low, high) = (|level: u32| level, |level: u32| levels + level);
+    // the last level of the other parity
+    let last = |level: u32| levels - 2 + (level + 1) % 2;
+    let mut game = Game::new();
+    for level in 0..levels {
+        let mut row = vec![low(level), high(last(level))];
+        row.extend((level + 1 < levels).then(|| high(level + 1)));
+        game.push(Vertex(levels - level, level % 2 == 0, sorted(row)));
+    }
+    for level in 0..levels {
+        let mut row = vec![low(last(level))];
+        row.extend((level > 1).then(|| low(level - 2)));
+        row.extend((level > 1).then(|| high(level - 2)));
+        game.push(Vertex(levels + 1 + level, level % 2 == 1, sorted(row)));
+    }
+    game
+}
+
+/// A game in the manner of Jurdzinski (Small Progress Measures for Solving Parity Games, 2000); not the same games as his. On 15 small
+/// sizes each of three orders of lifting took at least (columns + 1)^levels steps. A cell of a level i and a column has three vertices. Even's
+/// selector leads to the cell's bad vertex and to the selector above. Odd's bad vertex, of priority 2 i + 1, leads to the lowest
+/// selector of the next column and to the good vertex. This, of priority 2 i + 2, is Even's, and leads to that of the next column and to
+/// the lowest selector of its own. The last column leads to the first. Even wins the good vertices alone. A lift raises the greatest
+/// measure of a lowest selector by at most one, since Even takes the level whose bad vertex adds least.
+fn lifting(columns: u32, levels: u32) -> Game {
+    let at = |level: u32, column: u32, place: u32| 3 * (columns * level + column % columns) + place;
+    let mut game = Game::new();
+    for level in 0..levels {
+        for column in 0..columns {
+            let mut select = vec![at(level, column, 1)];
+            select.extend((level + 1 < levels).then(|| at(level + 1, column, 0)));
+            game.push(Vertex(0, false, select));
+            game.push(Vertex(2 * level + 1, true, sorted(vec![at(0, column + 1, 0), at(level, column, 2)])));
+            game.push(Vertex(2 * level + 2, false, sorted(vec![at(0, column, 0), at(level, column + 1, 2)])));
+        }
+    }
+    game
+}
+
 /// Whether one random Buchi automaton simulates another fairly (Etessami, Wilke and Schuller 2005), as a game of k^2 pairs
 /// of states and 2 k^2 answers that are owed. Odd moves in the first automaton by a letter, and Even has to answer by it.
 fn simulation(k: u32) -> Game {
@@ -497,6 +548,9 @@ fn game_of(name: &str) -> Option<Game> {
         "recursive_ladder" => recursive_ladder(40),
         "recursive_ladder_10000" => recursive_ladder(2_000),
         "recursive_ladder_100000" => recursive_ladder(20_000),
+        "lifting_500_200" => lifting(500, 200),
+        "promotions" => promotions(60),
+        "promotions_10000" => promotions(5_000),
         "simulation" => simulation(180),
         "hypercube" => hypercube(13),
         "tree_with_ways_back" => tree_with_ways_back(n),

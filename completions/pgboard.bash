@@ -1,21 +1,15 @@
-# Completion of pgboard for bash. (tools/help makes this file)
+# Completion of pgboard for bash: what the program's help lists, else files.
 _pgboard() {
-    local word=${COMP_WORDS[COMP_CWORD]} words=
-    case $COMP_CWORD:${COMP_WORDS[COMP_CWORD - 1]}:$word in
-    1:*:-*) words='--help --version' ;;
-    1:* | *:help:*) words='solve trace verify tidy help' ;;
-    *:--workers:*) words=$(seq 1 64) ;;
-    *:--bound:*) words=$(seq 0 8) ;;
-    *:*:-*)
-        case ${COMP_WORDS[1]} in
-        solve) words='--workers --bound --winners --known --help' ;;
-        trace) words='--workers --help' ;;
-        verify) words='--help' ;;
-        tidy) words='--help' ;;
-        esac
-        ;;
+    local word=${COMP_WORDS[COMP_CWORD]} last=${COMP_WORDS[COMP_CWORD - 1]} command=() help words=
+    if [[ $COMP_CWORD -gt 1 && ${COMP_WORDS[1]} = [a-z]* && ${COMP_WORDS[1]} != help ]]; then
+        command=("${COMP_WORDS[1]}")
+    fi
+    help=$("$1" "${command[@]}" -h 2>/dev/null)
+    case $last:$word in
+    --*:*) words=$(seq $(sed -En "s/^ +$last <.* ([0-9]+) to ([0-9]+).*/\1 \2/p" <<<"$help") 2>/dev/null) ;;
+    *:-*) words=$(sed -En 's/^ +(-., )?(--[a-z]+).*/\2/p' <<<"$help") ;;
+    *) words=$(sed -En 's/^  ([a-z]+) .*/\1/p' <<<"$help") ;;
     esac
     COMPREPLY=($(compgen -W "$words" -- "$word"))
-    # without words, files
 }
 complete -o bashdefault -o default -F _pgboard pgboard

@@ -1,13 +1,14 @@
-# Completion of pgboard for fish. (tools/help makes this file)
-complete -c pgboard -n __fish_use_subcommand -f -a solve -d "Writes a solution of GAME"
-complete -c pgboard -n __fish_use_subcommand -f -a trace -d "Writes the journal of solving GAME, and the result of each job"
-complete -c pgboard -n __fish_use_subcommand -f -a verify -d "Says whether SOLUTION is a solution of GAME"
-complete -c pgboard -n __fish_use_subcommand -f -a tidy -d "Writes GAME in its one written form"
-complete -c pgboard -n __fish_use_subcommand -f -a help -d "Print this message or the help of the given subcommand(s)"
-complete -c pgboard -n __fish_use_subcommand -l version -d "Print the version"
-complete -c pgboard -l help -d "Print help"
-complete -c pgboard -n "__fish_seen_subcommand_from help" -f -a "solve trace verify tidy help"
-complete -c pgboard -n "__fish_seen_subcommand_from solve trace" -l workers -x -a "(seq 1 64)" -d "How many threads look for dominions, 1 to 64"
-complete -c pgboard -n "__fish_seen_subcommand_from solve" -l bound -x -a "(seq 0 8)" -d "The most vertices of a small dominion, 0 to 8"
-complete -c pgboard -n "__fish_seen_subcommand_from solve" -l winners -d "Write the winners alone, without choices"
-complete -c pgboard -n "__fish_seen_subcommand_from solve" -l known -r -F -d "A solution text of what is known; it may omit vertices"
+# Completion of pgboard for fish: what the program's help lists, else files.
+function __pgboard_words
+    set -l before (commandline -opc)
+    set -l help (command $before[1] (string match -r '^(?!help$)[a-z]+$' -- $before[2]) -h 2>/dev/null)
+    set -l numbers (string replace -rf "^ +$before[-1] <.* (\d+) to (\d+).*" '$1\n$2' -- $help)
+    if set -q numbers[1]
+        seq $numbers
+    else if string match -q -- '-*' (commandline -ct)
+        string replace -rf '^ +(?:-., )?(--[a-z]+)(?: <\w+>)? +(.*)' '$1\t$2' -- $help
+    else
+        string replace -rf '^  ([a-z]+) +(.*)' '$1\t$2' -- $help
+    end
+end
+complete -c pgboard -n 'count (__pgboard_words) >/dev/null' -f -a '(__pgboard_words)'

@@ -1,23 +1,21 @@
 #!/usr/bin/env python3
 """Tests of bench/run: tests/bench.py [PROGRAM] [-k WORD]
 
-The commands of docs/BENCHMARKS.md print its tables, and each command runs. A program's wrong answer is
-named, in a measured run too. The cells of given figures, the units and the game that takes the recursion
-long are worked out here again. The comparator's fast parts agree with its plain ones.
+The commands of docs/BENCHMARKS.md print its tables, and each command runs. A program's wrong answer is named,
+in a measured run too. The cells of given figures, the units and the game that takes the recursion long are
+worked out here again. The comparator's fast parts agree with its plain ones.
 """
 
-import io
 import os
 import re
 import sys
-import types
 import unittest
 
 import common
 import plain
 
 BENCH = common.ROOT / "bench"
-COMMANDS = "tidy,tidy-pipe,verify,verify-any,wrong,solve,winners"
+COMMANDS = "tidy tidy-pipe verify verify-any wrong solve winners".split()
 # a program that changes what the one under test writes to some words, at once or after its first run
 WRONG = """#!/bin/sh
 "{program}" "$@" > {out}; status=$?
@@ -46,18 +44,15 @@ class Bench(unittest.TestCase):
         os.makedirs(cls.bench.OUT, exist_ok=True)
 
     def ran(self, *words, program=common.PROGRAM, status=0):
-        """The lines that bench/run prints, and the figures that it keeps."""
-        before = set(BENCH.glob("out/figures-*.tsv"))
+        """The lines that bench/run prints."""
         words = [sys.executable, BENCH / "run", program, *words, "--runs", "1"]
         got, out, err = common.run(words, timeout=1800)
         self.assertEqual(got, status, out + err)
-        (made,) = set(BENCH.glob("out/figures-*.tsv")) - before
-        self.addCleanup(made.unlink)
-        return out.decode().splitlines(), made.read_text(encoding="utf-8")
+        return out.decode().splitlines()
 
     def test_each_command_runs(self):
         inputs = ["own_loops", "one_own_loop_too_many"]
-        (_, _, first, refused, *_), _ = self.ran("--only", ",".join(inputs), "--commands", COMMANDS)
+        _, _, first, refused, *_ = self.ran("--only", *inputs, "--commands", *COMMANDS)
         self.assertRegex(first, r"^\| own_loops( \| [0-9.]+ \([0-9., ]+\)){14} \|$")
         # (a text, and only `tidy` gets one)
         self.assertRegex(refused, r"^\| one_own_loop_too_many( \| [0-9.]+ \([0-9.]+\)){4}( \| -){10} \|$")
@@ -72,31 +67,31 @@ class Bench(unittest.TestCase):
                     text = dict(words=words, change=change, status=status, when=when, out=folder / "out")
                     text = WRONG.format(program=common.PROGRAM, **text)
                     program = common.write_program(folder / "program", text)
-                    lines, _ = self.ran("--only", name, "--commands", command, program=program, status=1)
+                    lines = self.ran("--only", name, "--commands", command, program=program, status=1)
                     self.assertIn(f"| {name} | WRONG | WRONG |", lines)
                     self.assertRegex(lines[-1], f"^- {name} {command} WRONG: statuses ")
-        for it in BENCH.glob("out/wrong-*"):
-            it.unlink()
 
     def test_the_cells_of_given_figures(self):
         """Medians of three runs, their units, and each ratio."""
         bench = self.bench.Bench.__new__(self.bench.Bench)
-        bench.given = types.SimpleNamespace(runs=3, columns="ms,cpu,MiB")
-        bench.scratch, bench.folder, bench.raw = "scratch", "folder", io.StringIO()
+        bench.runs, bench.columns, bench.scratch, bench.folder = 3, ["ms", "cpu", "MiB"], "scratch", "folder"
         bench.binary, bench.comparator, bench.agree = "program", "comparator", lambda *_: True
-        # seconds, CPU seconds and KiB of each run, after one that does not count
+        # seconds, CPU seconds and MiB of each run, after one that does not count
         took = {
-            "program": [(9, 9, 9), (0.004, 0.03, 2048), (0.001, 0.07, 6144), (0.009, 0.02, 4096)],
-            "comparator": [(9, 9, 9), (0.005, 0.1, 1024), (0.002, 0.5, 2048), (0.003, 0.2, 9216)],
-            "verify": [(9, 9, 9), (0.002, 0.04, 8192), (0.001, 0.01, 3072), (0.007, 0.02, 3072)],
+            "program": [(9, 9, 9), (0.004, 0.03, 2), (0.001, 0.07, 6), (0.009, 0.02, 4)],
+            "comparator": [(9, 9, 9), (0.005, 0.1, 1), (0.002, 0.5, 2), (0.003, 0.2, 9)],
+            "verify": [(9, 9, 9), (0.002, 0.04, 8), (0.001, 0.01, 3), (0.007, 0.02, 3)],
         }
         bench.run = lambda who, words, *_: (0, *took["verify" if words[0] == "verify" else who].pop(0))
         solve = bench.case("own_loops", "solve")
         # medians: 4 ms, 30 ms and 4 MiB; 3 ms, 200 ms and 2 MiB; and 2 ms, 20 ms and 3 MiB of its verify
         wanted = ["4.0 (1.33, 0.80)", "30.0 (0.15, 0.14)", "4.0 (2.00, 1.33)"]
-        self.assertEqual([*self.bench.cells(solve, ["ms", "cpu", "MiB"])], wanted)
-        kept = bench.raw.getvalue().splitlines()
-        self.assertEqual((len(kept), kept[0]), (9, "own_loops\tsolve\tprogram\t1\t0\t0.004\t0.03\t2048"))
+        self.assertEqual([self.bench.cell(solve, it) for it in bench.columns], wanted)
+        # (without its input `tidy` would be as fast in both, and as wrong)
+        piped = []
+        bench.run = lambda who, words, out, given: piped.append((words, given)) or (0, 1, 1, 1)
+        bench.case("own_loops", "tidy-pipe")
+        self.assertEqual(piped, [(["tidy"], "folder/own_loops.pg")] * 8)
 
     def test_the_figures_of_a_run_are_in_their_units(self):
         bench = self.bench.Bench.__new__(self.bench.Bench)
@@ -108,7 +103,7 @@ class Bench(unittest.TestCase):
         self.assertEqual([sleep[0], loop[0], fill[0], ran("exit(3)")[0]], [0, 0, 0, 3])
         self.assertTrue(0.6 <= sleep[1] < 30 and sleep[2] < 0.6, sleep)
         self.assertTrue(0.6 <= loop[2] <= loop[1] + 0.1 and loop[2] < 3, loop)
-        self.assertTrue(200 << 10 <= fill[3] < 400 << 10 and sleep[3] < 100 << 10, (sleep, fill))
+        self.assertTrue(200 <= fill[3] < 400 and sleep[3] < 100, (sleep, fill))
 
     def test_the_comparator_is_built_with_optimisation(self):
         source = common.make_folder(self) / "main.rs"
@@ -139,10 +134,9 @@ class Bench(unittest.TestCase):
         for words, table in commands:
             with self.subTest(words):
                 # (of one small input, once)
-                lines, figures = self.ran(*words.split(), "--only", "own_loops")
+                lines = self.ran(*words.split(), "--only", "own_loops")
                 self.assertEqual(lines[0], re.search(r"(?m)^\| input \|.*$", common.text_of(table))[0])
                 self.assertEqual(lines[2].count("("), lines[0].count(", "))
-                self.assertEqual(figures.split("\n")[0].split("\t"), self.bench.RAW_HEADS)
 
     def test_the_comparators_fast_parts_are_its_plain_ones(self):
         status, out, _ = common.run([BENCH / "out" / "comparator", "selftest", "20000"], timeout=1800)

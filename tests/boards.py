@@ -346,8 +346,8 @@ class Referee(Boards):
         said = "referee: no/run.svg: No such file or directory"
         self.assertEqual((status, err.splitlines()[-1]), (4, said))
         self.solves(GAME, out)
-        status, _, err = self.run_script("--solver", "/nowhere {game}", good)
-        said = "referee: solver 1 (/nowhere {game}): /nowhere: No such file or directory\n"
+        status, _, err = self.run_script("--solver", "/nowhere\n{game}", good)
+        said = r"referee: solver 1 (/nowhere\n{game}): /nowhere: No such file or directory" + "\n"
         self.assertEqual((status, err), (0, f"{said}referee: the board itself settled 3 of 3\n"))
 
 

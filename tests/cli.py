@@ -75,10 +75,11 @@ class Cases(unittest.TestCase):
 
 common.load_tests_of_table(Cases, {it.name: it.name for it in sorted(CASES.iterdir())}, Cases.judge)
 
-# what a build says of itself: rt alone records nothing, ./pgboard and ./package record the commit, or without git the sum of the sources
+# what a build says of itself: rt alone records nothing, and ./package the commit; ./pgboard also says whether
+# files differ from the commit, and knows none outside of git
 BUILD = (
     rb"build: (?:not recorded: whether this program was proved, and of which commit it is"
-    rb"|(?:un)?proved, (?:(?:changed since )?commit|sources) [0-9a-f]{40})"
+    rb"|(?:un)?proved, commit (?:[0-9a-f]{40}(?:-dirty)?|unknown))"
 )
 
 

@@ -1,10 +1,11 @@
 #!/usr/bin/env python3
 """Tests what repeats the program's help: tests/help.py [PROGRAM] [-k WORD]
 
-Completions and man page are as tools/help makes them. What three shells offer after some words is what the
-help lists, and a file where that is wanted; zsh runs with a plain `_arguments`.
+The man page is as tools/help makes it. What three shells offer after some words is what the help lists, and a
+file where that is wanted; zsh runs with a plain `_arguments`.
 """
 
+import os
 import re
 import unittest
 
@@ -14,7 +15,7 @@ import common
 BASH = r"""
 source "$0"
 COMP_WORDS=("$@") COMP_CWORD=$(($# - 1))
-_pgboard
+_pgboard "$1"
 printf '%s\n' "${COMPREPLY[@]}"
 if [ ${#COMPREPLY[@]} = 0 ] && [[ $(complete -p pgboard) == *' -o default '* ]]; then compgen -f; fi
 """
@@ -29,7 +30,7 @@ _arguments() {
         esac
     done
     if [[ $words[CURRENT] = -* ]]; then print -l -- ${${(M)@:#--*}%%\[*}
-    elif [[ "$*" = *1:*:_files* ]]; then print -l -- *
+    elif (($@[(I)\*:file:_files])); then print -l -- *
     fi
 }
 run() { local words=("$@") CURRENT=$#; source $file }
@@ -63,19 +64,27 @@ def offers():
 
 
 class Help(unittest.TestCase):
-    def test_each_file_is_as_it_is_made(self):
-        for path, text in common.load(common.ROOT / "tools/help").made(common.PROGRAM).items():
-            with self.subTest(path):
-                self.assertEqual(common.text_of(path), text, "run tools/help PROGRAM")
+    def test_the_man_page_is_as_it_is_made(self):
+        maker = common.load(common.ROOT / "tools/help")
+        made = maker.made(common.PROGRAM)
+        self.assertEqual(common.text_of("docs/man1/pgboard.1"), made, "run tools/help PROGRAM")
+        # (a line that begins with a dot or a quote would be taken for a command)
+        self.assertEqual(maker.roff("./pgboard\n'quoted"), "\\&./pgboard\n\\&'quoted")
+
+    def test_the_man_page_has_each_flag(self):
+        page = common.text_of("docs/man1/pgboard.1").replace("\\-", "-").split(".SH OPTIONS\n")[1]
+        flags = {it for _, offered in offers() for it in offered if it.startswith("--")}
+        self.assertEqual(flags, {*re.findall(r"(?m)^\.B\w? (?:-\w, )?(--[a-z]+)", page.split(".SH ")[0])})
 
     def test_each_shell_offers_what_the_help_lists(self):
         folder, home = common.make_folder(self), common.make_folder(self)
         (folder / "game.pg").touch()
+        (home / "pgboard").symlink_to(common.PROGRAM)
+        env = {"HOME": str(home), "PATH": f"{home}:{os.environ['PATH']}"}
         for typed, wanted in offers():
             for shell in common.installed(*SHELLS):
                 with self.subTest(shell, typed=typed):
                     words = ["pgboard", *typed.split(" ")]
-                    env = {"HOME": str(home)}
                     status, out, err = common.run([*SHELLS[shell], *words], cwd=folder, env=env)
                     said = {line.partition("\t")[0] for line in out.decode().split("\n")}
                     self.assertEqual((status, err, said - {""}), (0, b"", wanted))

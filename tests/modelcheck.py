@@ -247,6 +247,7 @@ BRACKETS = {
     '<a+"b"> X': '<a + ("b")> X',
     "<a+!b> X": "<a + (!b)> X",
     "<a*+> X": "<(a*)+> X",
+    "<a (1)> X": "<a(1)> X",
 }
 
 
@@ -326,6 +327,7 @@ class ModelCheck(scripts.Use, unittest.TestCase):
             "<a % one ] two\n> true": True,
             "<a.b % one\n | % two )\n c( % three )\n 1 )> true": True,
             '<"a"> % "\n true % "': True,
+            '<"100%"> true || <a> true': True,
             "<a.b> true": False,
         }.items():
             self.check(self.model, formula, expected)
@@ -593,6 +595,7 @@ class ModelCheck(scripts.Use, unittest.TestCase):
             found = model.part(self.evidence.read_text(encoding="ascii")).transitions
             self.assertEqual(sorted(found), [(0, label, 1) for label in labels])
 
+    @common.needs("dot")
     def test_evidence_and_pictures_of_waiting(self):
         """The other is let in again and again, which is the only way to wait for ever; the pages show the
         picture.

@@ -2,7 +2,8 @@
 """Compares the pages with the program and the sources: tests/pages.py [PROGRAM] [-k WORD]
 
 Commands on the pages print what the pages show, links lead somewhere, each fault line is in docs/FAULTS.md,
-synopsis and man page say what the program's help says, and code on the pages is in a test.
+synopsis and man page say what the program's help says, and code on the pages is in a test. pyflakes finds
+nothing in the Python files.
 """
 
 import os
@@ -384,6 +385,32 @@ class Code(unittest.TestCase):
             for at, block in enumerate(blocks, 1):
                 with self.subTest(page, block=at):
                     self.assertTrue(is_tested(page, block))
+
+
+# --- Python ---
+
+
+def scripts():
+    """The Python files, also those without an ending."""
+    paths = [common.ROOT / it for it in pages("*", "tools/*", "bench/**/*")]
+    named = [it for it in paths if it.is_file() and it.read_bytes().startswith(b"#!/usr/bin/env python3\n")]
+    return sorted({*pages("**/*.py"), *(str(it.relative_to(common.ROOT)) for it in named)})
+
+
+def is_excused(complaint):
+    """Whether the line says `noqa`, as flake8 reads it: names of a package that others import from it."""
+    path, number, _ = complaint.split(":", 2)
+    return "# noqa" in common.text_of(path).splitlines()[int(number) - 1]
+
+
+class Python(unittest.TestCase):
+    @common.needs("pyflakes3")
+    def test_pyflakes_finds_nothing(self):
+        files = scripts()
+        self.assertLessEqual({"package", "test", "tests/pages.py", "tools/help"}, {*files})
+        _, out, err = common.run(["pyflakes3", *files], cwd=common.ROOT)
+        complaints = out.decode().splitlines()
+        self.assertEqual(([it for it in complaints if not is_excused(it)], err), ([], b""))
 
 
 if __name__ == "__main__":

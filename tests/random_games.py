@@ -379,6 +379,7 @@ class RandomGames(unittest.TestCase):
         self.assertIsNone(plain.written_fault(game, text))
         wrong = text.replace(b"9 1 9", b"9 0")
         self.assertEqual(plain.written_fault(game, wrong), "not a solution: bad cycle at 9\n")
+        self.assertIsNotNone(plain.written_fault(game, text.replace(b"12 0;", b"12 0 3;")))
         chain = {v: (0, 0, {max(v - 1, 0)}) for v in range(7)}
         self.assertEqual(plain.attracted(chain, {0}, 0), {*chain})
 
@@ -390,6 +391,8 @@ class RandomGames(unittest.TestCase):
             with self.subTest(at=found.start()):
                 wrong = text[: found.start()] + b"%d" % (int(found[0]) + 5) + text[found.end() :]
                 self.assertIsNotNone(plain.trace_fault(game, 1, wrong))
+        wrong = text.replace(b"job 4 1 0 0 0", b"job 4 - 0 0 1").replace(b"total 2 2 0", b"total 2 2 1")
+        self.assertEqual(plain.trace_fault(game, 1, wrong), "a job of no worker has done something")
 
 
 if __name__ == "__main__":

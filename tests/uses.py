@@ -239,6 +239,7 @@ PICTURES = {
 class Draw(Use, unittest.TestCase):
     name = "draw"
 
+    @common.needs("dot")
     def test_the_pictures_of_the_pages(self):
         trace = self.file("trace", common.program("trace", "--workers", "1", EXAMPLES / "requests.pg")[1])
         for name, words in PICTURES.items():
@@ -304,6 +305,7 @@ class Draw(Use, unittest.TestCase):
         with self.assertRaisesRegex(self.script.Refused, "201 vertices are too many"):
             self.call(game(201))
 
+    @common.needs("dot")
     def test_other_kinds_of_pictures(self):
         """A flag may stand between the words."""
         for flag, begins in (("--png", "PNG"), ("--pdf", "%PDF-"), ("--svg", "<?xml")):
@@ -311,6 +313,7 @@ class Draw(Use, unittest.TestCase):
                 status, out, err = self.run_script("examples/both_win.pg", flag, "examples/both_win.sol")
                 self.assertEqual((status, err, begins in out[:8]), (0, "", True))
 
+    @common.needs("dot")
     def test_names_with_backslashes_and_long_ones_with_signs(self):
         """Graphviz would read some letters after a backslash as other text; and an entity is not cut."""
         game = self.file("game.pg", r'0 0 0 0 "C:\new\N\\G\\"; 1 0 0 1 "' + "a" * 28 + '&&&";')
@@ -446,10 +449,14 @@ class Explain(Use, unittest.TestCase):
         out = self.said(game, "0 0; 1 0; 2 0; 3 0; 4 0; 5 0 5;")
         self.assertEqual(re.findall(r"(?m)^  (\d+): ", out), ["0", "2", "3"])
 
-    def test_the_least_priority_is_shown_as_it_was_given(self):
-        """With --min the walk's decisive vertex has the least priority of it, by the text's own numbers."""
-        out = self.said("0 3 0 1; 1 8 1 0;", "0 0 1; 1 0;", "--min")
-        self.assertEqual(out.splitlines()[2], "  0: priority 3, Even chooses 1   <- the least, and Odd's")
+    def test_priorities_are_shown_as_they_were_given(self):
+        """The walk's first vertex is the decisive one, with the priority of the text."""
+        for flag, first in (
+            ("--min", "  0: priority 3, Even chooses 1   <- the least, and Odd's"),
+            ("--odd", "  1: priority 8, Odd may move to 0   <- the greatest, and Odd's"),
+        ):
+            out = self.said("0 3 0 1; 1 8 1 0;", "0 0 1; 1 0;", flag)
+            self.assertEqual(out.splitlines()[2], first)
 
     def test_damaged_texts(self):
         game, solution = (
@@ -716,6 +723,8 @@ class Ends(unittest.TestCase):
             "PGBOARD": shlex.quote(str(common.PROGRAM)),
             "PYTHONPATH": str(BINDINGS),
             "LONG": "A" * 5000,
+            # (a buffer that is lost is seen where there is one)
+            "PYTHONUNBUFFERED": "",
         }
         env["PATH"] = f"{self.folder}:{env['PATH']}"
         status, out, err = common.run(["bash", "-c", calls + line], b"0 8 0 0;", cwd=self.folder, env=env)

@@ -221,12 +221,12 @@ class Command(unittest.TestCase):
         self.assertRegex(err, rf"\A{re.escape(self.STATS)}{more}\Z")
         said = {"is_solution": False, "fault": "5 leaves to 9"}
         won = {"vertex": 7, "winner": 0}
-        for status, wanted, *words in (
+        for status, wanted, *asked in (
             (1, said, "verify", path, wrong),
             (0, won, "winner", "--vertex", "7", path),
             (0, {**won, "reach": [5, 7]}, "winner", "--reach", "--vertex", "7", path),
         ):
-            self.assertEqual(self.call(*words, "--json"), (status, json.dumps(wanted) + "\n"))
+            self.assertEqual(self.call(*asked, "--json"), (status, json.dumps(wanted) + "\n"))
 
     def test_components_of_random_games(self):
         """They are those of mutual reachability."""

@@ -279,10 +279,10 @@ class Referee:
         ]
         for worker, name in enumerate(names):
             count, steps = 0, [f"M{LEFT},{up(0)}"]
-            for seconds, by, settled in self.posts:
+            for when, by, settled in self.posts:
                 if by == worker:
                     count += settled
-                    steps.append(f"H{across(seconds)}V{up(count)}")
+                    steps.append(f"H{across(when)}V{up(count)}")
             colour, y = COLOURS[worker % len(COLOURS)], HEIGHT + 36 + 20 * worker
             lines.append(
                 f'<path id="worker{worker}" d="{"".join(steps)}H{WIDTH}" fill="none" stroke="{colour}" stroke-width="2.5"/>'

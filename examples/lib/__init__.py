@@ -9,7 +9,7 @@ import sys
 
 sys.path.insert(1, os.path.join(os.path.dirname(os.path.abspath(__file__)), "..", "..", "bindings", "python"))
 try:
-    import pgboard.command
+    import pgboard.command  # noqa: F401
 except ImportError:
     sys.exit(
         "the Python package pgboard is not here: install its wheel, or run this in a clone of the repository"

@@ -14,12 +14,12 @@ to do. A call that solves works in slices, and between two of them Python handle
 such a call of the main thread, and `timeout` and `cancel` those of any thread.
 """
 
-from .version import __version__
+from .version import __version__  # noqa: F401
 
 TYPE_CHECKING = False
 if TYPE_CHECKING:
     from .calls import *  # noqa: F401,F403
-    from .calls import __all__
+    from .calls import __all__  # noqa: F401
 
 
 def __getattr__(name: str) -> object:

@@ -5,7 +5,7 @@ from __future__ import annotations
 from array import array
 from typing import Any, Iterable, List, Optional, Sequence, Tuple, Union
 
-from . import faults, library
+from . import faults
 
 from .arrays import (
     Buffer, MaybeNumbers, Numbers, PathLike, Rows, Solution, Text, as_given, claim_views, claims_of, game_of, game_views, pair_of, rows_of_matrix,

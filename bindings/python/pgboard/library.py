@@ -28,6 +28,8 @@ NO_WINNER = 255
 # the package's version as pgboard_version says it
 NUMBERS = [int(it) for it in __version__.split(".")]
 VERSION = NUMBERS[0] * 10000 + NUMBERS[1] * 100 + NUMBERS[2]
+# (the number is that of the interface, as in ./package)
+SONAME = "libpgboard.so.0"
 HERE = os.path.dirname(os.path.abspath(__file__))
 # the commands that build it, at the top of the repository
 OUT = "crates/pgboard_c/out"
@@ -45,7 +47,7 @@ def path_of_library() -> str:
         os.path.join(HERE, "..", "..", "..", "crates", "pgboard_c", "out", "libpgboard.so")
     )
     there = [os.environ.get("PGBOARD_LIBRARY"), *filter(os.path.exists, [beside, built])]
-    return next(filter(None, there), f"libpgboard.so.{NUMBERS[0]}")
+    return next(filter(None, there), SONAME)
 
 
 def load() -> ctypes.CDLL:

@@ -48,12 +48,12 @@ module _ (g : Graph) (st : State) (lawful : IsLawfulState g st) (p : Player) (ro
   }
 
   pub dominion_wins : (v : ℕ) → In (named rows) v → Wins g p v
-  dominion_wins v i = (
-    union (settled st p) (union (named rows) no_vertices),
-    both_choices,
-    grown_region g p (settled st p) (named rows) no_vertices (choices st) both_choices (λ v. 0) grows,
-    or_right (settled st p v) (named rows v || false) (or_left (named rows v) false i),
-  )
+  dominion_wins v i = record {
+    vertices = union (settled st p) (union (named rows) no_vertices);
+    choices = both_choices;
+    region = grown_region g p (settled st p) (named rows) no_vertices (choices st) both_choices (λ v. 0) grows;
+    inside = or_right (settled st p v) (named rows v || false) (or_left (named rows v) false i);
+  }
 
 module _ (g : Graph) (journal : Journal) (lawful : IsLawful g journal) (k : ℕ) (p : Player) (rows : ClaimRows) (d : IsDominionAfter g journal k p rows) where
   abbrev now : State
@@ -64,8 +64,12 @@ module _ (g : Graph) (journal : Journal) (lawful : IsLawful g journal) (k : ℕ)
 
   pub never_lost : (v : ℕ) → In (named rows) v → settled now (opponent p) v ≡ false
   never_lost v i = false_from_ne_true (settled now (opponent p) v) (λ a.
-      disjoint_for g p v (dominion_wins g (state_of (take k journal)) (lawful.states k d.0) p rows d.1 v i)
-      (settled now (opponent p), choices now, (lawful_now g journal lawful).regions (opponent p), a))
+      disjoint_for g p v (dominion_wins g (state_of (take k journal)) (lawful.states k d.0) p rows d.1 v i) (record {
+        vertices = settled now (opponent p);
+        choices = choices now;
+        region = (lawful_now g journal lawful).regions (opponent p);
+        inside = a;
+      }))
 
   -- a vertex of the claim that is not open is the player's
   pub ours_or_open : (v : ℕ) → In (named rows) v → (b : Bool) → is_unsettled (now v) ≡ b → In (named (rest_of now rows)) v ⊎ In (settled now p) v

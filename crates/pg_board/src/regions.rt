@@ -1,6 +1,6 @@
 //! What a board stores beside its journal: for each vertex its winner and choice, and the mask of the unsettled vertices.
-//! Attraction changes them in place (Zielonka 1998): an attracted vertex is settled at once, and each vertex of the opponent
-//! watches its first unsettled successor. A watch only moves forward, as long as the board exists.
+//! Attraction changes them in place (Zielonka 1998): an attracted vertex is settled at once, and a cursor at each vertex of the
+//! opponent keeps the place of an unsettled successor.
 
 ghost use Rattle.std.specs.Prelude.{◌≡◌, ◌<◌, ◌==◌, ◌≤◌, if◌then◌else◌, ℕ, [], length, map, nat_eq, true, false, Some, None, IfOk, MatchOption};
 ghost use Rattle.std.specs.Prelude.{slice_set, slice_get, vec_capacity};
@@ -20,7 +20,7 @@ ghost use Rattle.pg_board.specs.Refusal.{IsLost};
 ghost use Rattle.pg_board.specs.private.OpenEdges.{AreTakenOut, EndsOutside, IsFirstEnd, LeadsOutside, IsFirstOutside};
 ghost use Rattle.pg_game.specs.private.VertexSet.{without};
 
-use pg_dominion::{AttractorState, Claim, attract_from};
+use pg_dominion::{AttractorState, Claim, Cursors, attract_from};
 use pg_game::{Game, Mask, Memory, Player};
 use std::alloc::Global;
 use std::mem::size_of;
@@ -30,8 +30,7 @@ use std::mem::size_of;
 pub struct Regions {
     pub table: Vec<VertexState>,
     pub unsettled: Mask,
-    /// For each vertex how many of its successors are known to be settled, from the first on.
-    pub passed: Vec<u32>,
+    pub cursors: Cursors,
 }
 
 impl Regions {
@@ -44,20 +43,20 @@ impl Regions {
         Ok(Regions {
             table: vec![in alloc; VertexState::Unsettled; n as usize]?,
             unsettled: Mask::full(alloc, n)?,
-            passed: vec![in alloc; 0u32; n as usize]?,
+            cursors: Cursors::new(alloc, n)?,
         })
     }
 
-    /// A copy of the tables. The only error is `Memory`.
+    /// A copy of the tables, with new cursors. The only error is `Memory`.
     pub fn copy(&self, alloc: Global) -> Result<Regions, Memory>
         ensures table { IfOk result (λ r. r.table.items ≡ self.now.table.items) }
         ensures mask { IfOk result (λ r. r.unsettled ≡ self.now.unsettled) }
-        ensures passed { IfOk result (λ r. r.passed.items ≡ self.now.passed.items) }
+        ensures cursors { IfOk result (λ r. length r.cursors.places.items ≡ length self.now.unsettled) }
     {
         Ok(Regions {
             table: Vec::from_slice(alloc, self.table.as_slice())?,
             unsettled: self.unsettled.copy(alloc)?,
-            passed: Vec::from_slice(alloc, self.passed.as_slice())?,
+            cursors: Cursors::new(alloc, self.unsettled.len())?,
         })
     }
 
@@ -214,29 +213,10 @@ impl Regions {
         ensures table { (v : ℕ) → table_state self.new.table.items v
             ≡ (if row.0 == v then Some (player, row.1) else table_state self.old.table.items v) }
         ensures mask { self.new.unsettled ≡ slice_set self.old.unsettled row.0 false }
-        ensures passed { self.new.passed.items ≡ self.old.passed.items }
+        ensures cursors { self.new.cursors ≡ self.old.cursors }
     {
         self.table[row.0 as usize] = VertexState::settled(player, row.1);
         self.unsettled.remove(row.0);
-    }
-
-    /// Moves the vertex's watch forward. Returns whether it has an unsettled successor.
-    fn move_watch(&mut self, game: &Game, v: u32) -> bool
-        requires regions { AreRegions game.now self.old }
-        requires vertex { v < length game.now }
-        ensures regions { AreRegions game.now self.new }
-        ensures table { self.new.table.items ≡ self.old.table.items }
-        ensures mask { self.new.unsettled ≡ self.old.unsettled }
-        ensures out { result ≡ true → (w : ℕ) × HasEdge game.now v w × In (members self.old.unsettled) w }
-        ensures none { result ≡ false → (w : ℕ) → HasEdge game.now v w → members self.old.unsettled w ≡ false }
-    {
-        let successors = game.successors(v);
-        let end = successors.len() as u32;
-        let at = self
-            .unsettled
-            .first_of(successors, self.passed[v as usize], end);
-        self.passed[v as usize] = at;
-        at < end
     }
 }
 
@@ -269,7 +249,7 @@ impl AttractorState for Regions {
     }
 
     fn find_way_out(&mut self, game: &Game, _list: &Vec<(u32, Option<u32>)>, v: u32) -> bool {
-        self.move_watch(game, v)
+        self.cursors.find_successor(game, &self.unsettled, v)
     }
 
     fn take(

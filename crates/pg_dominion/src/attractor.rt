@@ -1,8 +1,8 @@
 //! Attractors (Zielonka 1998), by attraction in place: a backward worklist over predecessors. A taken vertex is listed after those
 //! that it leads to, and is no longer free.
 //!
-//! At an opponent's vertex a watched place in its row moves on while the successor there is outside or taken. At the end of the row
-//! the player takes the vertex. So the search passes each touched row once, and counts nothing.
+//! At an opponent's vertex a cursor in its row moves on while the successor there is outside or taken. If none is left, the player
+//! takes the vertex. So the search counts nothing.
 
 ghost use Rattle.std.specs.Prelude.{◌<◌, ◌≤◌, ℕ, length, take, OnOk, OnErr, vec_capacity, ◌≡◌, ◌^◌, slice_index, IfOk, false};
 ghost use Rattle.pg_game.specs.Graph.{HasEdge};
@@ -14,6 +14,7 @@ ghost use Rattle.pg_game.specs.Subgame.{IsSubgame};
 ghost use Rattle.pg_dominion.specs.Claim.{named};
 ghost use Rattle.pg_dominion.specs.Attraction.{IsAttraction};
 
+use crate::cursors::Cursors;
 use pg_game::{Game, Mask, Memory, Player};
 use std::alloc::Global;
 
@@ -142,7 +143,7 @@ pub fn attract(
     let (free, mut rows) = free_and_target(alloc, inside, target)?;
     let mut state = FreeVertices {
         free,
-        passed: vec![in alloc; 0u32; game.len() as usize]?,
+        cursors: Cursors::new(alloc, game.len())?,
     };
     let front = rows.len();
     attract_from(&mut state, game, player, &mut rows, 0)?;
@@ -234,11 +235,11 @@ fn free_and_target(
     Ok((free, rows))
 }
 
-/// The free vertices, and for each vertex how many of its successors are known to be outside or taken.
+/// The free vertices, with cursors.
 #[derive(Drop)]
 struct FreeVertices {
     free: Mask,
-    passed: Vec<u32>,
+    cursors: Cursors,
 }
 
 impl AttractorState for FreeVertices {
@@ -254,7 +255,7 @@ impl AttractorState for FreeVertices {
 
     ghost free = { λ s. members s.free };
 
-    ghost ready = { λ g s rows capacity. IsFree g s.free s.passed.items rows };
+    ghost ready = { λ g s rows capacity. IsFree g s.free s.cursors rows };
 
     ghost grown = { λ g p s rows s' rows'. Extends g p (members s.free) rows (members s'.free) rows' };
 
@@ -269,11 +270,7 @@ impl AttractorState for FreeVertices {
     }
 
     fn find_way_out(&mut self, game: &Game, _list: &Vec<(u32, Option<u32>)>, v: u32) -> bool {
-        let successors = game.successors(v);
-        let end = successors.len() as u32;
-        let at = self.free.first_of(successors, self.passed[v as usize], end);
-        self.passed[v as usize] = at;
-        at < end
+        self.cursors.find_successor(game, &self.free, v)
     }
 
     fn take(

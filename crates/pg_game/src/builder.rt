@@ -335,8 +335,11 @@ impl GameBuilder {
         let mut specs = GameBuilder::with_capacity(alloc, lines.len(), self.rows.size())?;
         'lines: for line in lines {
             let i = line.1 as usize;
+            let id = self.ids[i];
+            let priority = self.priorities[i];
+            let owner = self.owners[i];
             let row = self.rows.row(line.1);
-            specs.push(self.ids[i], self.priorities[i], self.owners[i], row)?;
+            specs.push(id, priority, owner, row)?;
         }
         Ok(specs)
     }

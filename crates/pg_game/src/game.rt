@@ -55,9 +55,10 @@ impl Game {
     pub fn of_forward(alloc: Global, forward: ForwardGame) -> Result<Game, Memory>
         ensures { IfOk result (λ g. g ≡ forward) }
     {
+        let predecessors = forward.successors.reversed(alloc)?;
         Ok(Game {
-            predecessors: forward.successors.reversed(alloc)?,
             forward,
+            predecessors,
         })
     }
 
@@ -292,17 +293,20 @@ impl ForwardGame {
     pub(crate) fn is_same(&self, other: &ForwardGame) -> bool
         ensures { IsTrue result ↔ (self.now ≡ other.now) }
     {
-        if !self.identifiers.is_same(&other.identifiers) {
+        let same_identifiers = self.identifiers.is_same(&other.identifiers);
+        if !same_identifiers {
             return false;
         }
         let priorities = self.priorities.as_slice();
         let other_priorities = other.priorities.as_slice();
-        if priorities != other_priorities {
+        let priorities_differ = priorities != other_priorities;
+        if priorities_differ {
             return false;
         }
         let owners = self.owners.as_slice();
         let other_owners = other.owners.as_slice();
-        if owners != other_owners {
+        let owners_differ = owners != other_owners;
+        if owners_differ {
             return false;
         }
         self.successors.is_same(&other.successors)

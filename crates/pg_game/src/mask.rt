@@ -32,10 +32,8 @@ impl Mask {
     pub fn empty(alloc: Global, n: u32) -> Result<Mask, Memory>
         ensures { IfOk result (λ m. m ≡ replicate n false) }
     {
-        Ok(Mask {
-            words: vec![in alloc; 0u64; (n as usize).div_ceil(64)]?,
-            len: n,
-        })
+        let words = vec![in alloc; 0u64; (n as usize).div_ceil(64)]?;
+        Ok(Mask { words, len: n })
     }
 
     /// The set of all numbers below `n`. The only error is `Memory`.

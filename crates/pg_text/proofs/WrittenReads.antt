@@ -165,16 +165,22 @@ written_solution_reads g rows i are =
 pub written_game_is_text : WrittenGameIsText
 written_game_is_text g i w =
     let back : map spec_of (written_lines g) ≡ specs_of g = specs_back g g in
-    (written_lines g, written_game_spells g i w, subst (λ specs. IsGameOf specs g) (sym back) (described_game g i), ap first_fault back ∙ described_sound g i w)
+    record {
+      lines = written_lines g;
+      spelled = written_game_spells g i w;
+      says = subst (λ specs. IsGameOf specs g) (sym back) (described_game g i);
+      no_fault = ap first_fault back ∙ described_sound g i w;
+    }
 
 pub written_solution_is_text : WrittenSolutionIsText
 written_solution_is_text g rows i w are = record { lines = row_lines g g rows; spelled = written_solution_spells g rows i w are; says = are_lines g rows i are }
 
 -- a game that the written text of a game is a text of is that game
 pub written_game_back : (g h : Graph) → IsGame g → IsTextOf (written_game g) h → h ≡ g
-written_game_back g h i (lines, s, of, none) =
+written_game_back g h i text =
     let r = written_game_reads g i in
-    r.one_game h (subst (λ ls. IsGameOf (map spec_of ls) h) (r.one_text lines (s.tokens, s.spelled, s.grammar)) of)
+    let e = r.one_text text.lines (text.spelled.tokens, text.spelled.spelled, text.spelled.grammar) in
+    r.one_game h (subst (λ ls. IsGameOf (map spec_of ls) h) e text.says)
 
 -- and winners and choices that a written solution is a text of are those
 pub written_solution_back : (g : Graph) (rows others : SolutionRows) → IsGame g → AreSolutionRows g rows

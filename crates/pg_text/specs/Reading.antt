@@ -32,8 +32,11 @@ abbrev pub IsSomeGameText : List Token → Type 0
 IsSomeGameText ts = (lines : List games.WrittenGameLine) × IsGameText ts lines
 
 -- the text is one of the game
-abbrev pub IsTextOf : List ℕ → Graph → Type 0
-IsTextOf text g = (lines : List games.WrittenGameLine) × SpellsGame text lines × IsGameOf (map spec_of lines) g × (first_fault (map spec_of lines) ≡ None)
+pub record IsTextOf (text : List ℕ) (g : Graph) : Type 0 where
+  pub lines : List games.WrittenGameLine
+  pub spelled : SpellsGame text lines
+  pub says : IsGameOf (map spec_of lines) g
+  pub no_fault : first_fault (map spec_of lines) ≡ None
 
 -- the text's first fault; refused memory says nothing of the text
 abbrev pub IsFaultOf : List ℕ → TextFault → Type 0

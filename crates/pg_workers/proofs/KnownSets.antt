@@ -1,7 +1,7 @@
 -- Posting a known set settles it exactly where it is a region, and else is refused for a reason of the set.
 use Rattle.std.proofs.lemmas.Grind.{common_steps}
 use Rattle.std.proofs.Common.{rules, ◌≡◌, ℕ, zero, suc, ◌<◌, Bool, true, false, ◌||◌, ◌↔◌, List, [], ◌∷◌, length, refl, sym, ◌∙◌, ap, subst, arith, lt-ltb}
-use Rattle.std.proofs.Common.{◌++◌, ◌≤◌, ltb-true, Ok, Err, Option, Some, nat_lt}
+use Rattle.std.proofs.Common.{◌++◌, ◌≤◌, ltb-true, Ok, Err, IfOk, IfErr, Result, Option, Some, nat_lt}
 use mathlib.Core.Path.{fun_ext}
 use Rattle.std.proofs.Math.Bool.{or-false}
 use Rattle.std.specs.List.{Contains}
@@ -128,6 +128,14 @@ module _ (g : Graph) (game : IsGame g) (known : KnownRows) (sized : length known
     none_attracted v a =
         (let h : false ≡ true = attracts_none g game p v (subst (λ (X : VertexSet). Attractor g p (all_vertices g) X v) none_known a) in cc h)
 
+    none_counted : HasCount (IsAttractedToKnown g known p) 0
+    none_counted = record {
+      numbers = [];
+      distinct = none_distinct;
+      all = λ v. (λ m. absurd (omega (arith, m.1)), λ a. absurd (none_attracted v a));
+      size = refl;
+    }
+
     none_states : (journal : Journal) (v : ℕ) → In K v → state_of journal v ≡ Some (p, own_choices g p s v)
     none_states journal v i = absurd (let h : false ≡ true = sym (ap (λ (X : VertexSet). X v) none_known) ∙ i in cc h)
 
@@ -135,7 +143,7 @@ module _ (g : Graph) (game : IsGame g) (known : KnownRows) (sized : length known
         → SettlesKnown (record { graph = g; journal = journal }) (record { graph = g; journal = journal }) known p
     settles_nothing journal none =
         let later = none_later (record { graph = g; journal = journal }) (record { graph = g; journal = journal }) (p ∷ []) refl in
-        grind (arith, empty_region, none_attracted, none_distinct, none_states, later)
+        grind (arith, empty_region, none_attracted, none_counted, none_states, later)
 
   module _ (journal : Journal) (none : HasNone journal p) where
     abbrev st : State
@@ -189,7 +197,12 @@ module _ (g : Graph) (game : IsGame g) (known : KnownRows) (sized : length known
       other = settles.other;
       states = states;
       more = length adds.entry.rows;
-      size = (vertices adds.entry.rows, once_rows added, listed_as, length-map adds.entry.rows (λ (r : ℕ × Option ℕ). r.0));
+      size = record {
+        numbers = vertices adds.entry.rows;
+        distinct = once_rows added;
+        all = listed_as;
+        size = length-map adds.entry.rows (λ (r : ℕ × Option ℕ). r.0);
+      };
       number = ap number_settled adds.journal ∙ sum_by_push (λ (e : Entry). length e.rows) journal adds.entry;
     }
       where
@@ -249,25 +262,28 @@ module _ (g : Graph) (known : KnownRows) (opened mid : BoardRecord) (here : open
     λ v. first.other v ∙ ap (λ (j : Journal). settled (state_of j) Odd v) new_board,
   )
 
-  pub odd_fault : mid.graph ≡ g → IsLawful mid.graph mid.journal → (e : SolveFault) → IsKnownFault g mid.journal known Odd e
-      → IsSolveFault g known e
-  odd_fault same lawful e h = search (rules, before_odd)
+  pub odd_fault : mid.graph ≡ g → IsLawful mid.graph mid.journal → (r : Result BoardRecord SolveFault) → IfErr r (IsKnownFault g mid.journal known Odd)
+      → IfErr r (IsSolveFault g known)
+  odd_fault same lawful (Ok new) h = tt
+  odd_fault same lawful (Err e) h = search (rules, before_odd)
 
-  pub has_known : (new : BoardRecord) → mid.graph ≡ g → SettlesKnown mid new known Odd → HasKnown g known new.journal
-  has_known new same second = record {
+  pub has_known : mid.graph ≡ g → (r : Result BoardRecord SolveFault) → IfOk r (λ new. SettlesKnown mid new known Odd)
+      → IfOk r (λ new. HasKnown g known new.journal)
+  has_known same (Err e) none = tt
+  has_known same (Ok new) second = record {
     entries =
         subst (λ (j : Journal). AreOfCaller (Even ∷ Odd ∷ []) j) (sym (second.later.journal ∙ ap (λ (j : Journal). j ++ second.later.added)
         (first.later.journal ∙ ap (λ (j : Journal). j ++ first.later.added) new_board)))
         (both_of_caller first.later.added second.later.added first.later.by_caller second.later.by_caller);
     regions = regions;
     states = states;
-    number = (
-      first.more,
-      second.more,
-      subst (λ (h : Graph). HasCount (IsAttractedToKnown h known Even) first.more) here first.size,
-      subst (λ (h : Graph). HasCount (IsAttractedToKnown h known Odd) second.more) same second.size,
-      (let none : number_settled opened.journal ≡ 0 = ap number_settled new_board in omega (arith, first.number, second.number)),
-    );
+    number = record {
+      of_even = first.more;
+      of_odd = second.more;
+      even = subst (λ (h : Graph). HasCount (IsAttractedToKnown h known Even) first.more) here first.size;
+      odd = subst (λ (h : Graph). HasCount (IsAttractedToKnown h known Odd) second.more) same second.size;
+      sum = let none : number_settled opened.journal ≡ 0 = ap number_settled new_board in omega (arith, first.number, second.number);
+    };
   }
     where
       regions : (p : Player) → IsKnownRegion g known p

@@ -35,12 +35,19 @@ abbrev pub IsAttractedToKnown : Graph → KnownRows → Player → ℕ → Type 
 IsAttractedToKnown g known p v = Attractor g p (all_vertices g) (known_of known p) v
 
 -- the number of numbers with the property
-abbrev pub HasCount : (ℕ → Type 0) → ℕ → Type 0
-HasCount P n = (vs : List ℕ) × IsDistinct nat_eq vs × ((v : ℕ) → Contains vs v ↔ P v) × (length vs ≡ n)
+pub record HasCount (P : ℕ → Type 0) (n : ℕ) : Type 0 where
+  pub numbers : List ℕ
+  pub distinct : IsDistinct nat_eq numbers
+  pub all : (v : ℕ) → Contains numbers v ↔ P v
+  pub size : length numbers ≡ n
 
 -- the number of vertices that the players attract to their known sets
-abbrev pub IsKnownSize : Graph → KnownRows → ℕ → Type 0
-IsKnownSize g known n = (a : ℕ) × (b : ℕ) × HasCount (IsAttractedToKnown g known Even) a × HasCount (IsAttractedToKnown g known Odd) b × (n ≡ a + b)
+pub record IsKnownSize (g : Graph) (known : KnownRows) (n : ℕ) : Type 0 where
+  pub of_even : ℕ
+  pub of_odd : ℕ
+  pub even : HasCount (IsAttractedToKnown g known Even) of_even
+  pub odd : HasCount (IsAttractedToKnown g known Odd) of_odd
+  pub sum : n ≡ of_even + of_odd
 
 -- nothing is settled for the player
 abbrev pub HasNone : Journal → Player → Type 0
@@ -67,7 +74,14 @@ IsBefore g known Even journal = journal ≡ []
 IsBefore g known Odd journal =
     IsKnownRegion g known Even × ((v : ℕ) → In (settled (state_of journal) Even) v ↔ IsAttractedToKnown g known Even v) × HasNone journal Odd
 
+-- the player's known set is no region, and its post is refused so on the board before it
+pub record IsRefusedPost (g : Graph) (known : KnownRows) (p : Player) (e : Refusal) : Type 0 where
+  pub journal : Journal
+  pub lawful : IsLawful g journal
+  pub before : IsBefore g known p journal
+  pub refused : IsRefusedKnown g journal known p e
+
 -- why a run has no solution: refused memory, or a known set that is no region, with the refusal of its post
 abbrev pub IsSolveFault : Graph → KnownRows → SolveFault → Type 0
 IsSolveFault g known fault.Memory = Unit {0}
-IsSolveFault g known (fault.Known p e) = (journal : Journal) × IsLawful g journal × IsBefore g known p journal × IsRefusedKnown g journal known p e
+IsSolveFault g known (fault.Known p e) = IsRefusedPost g known p e

@@ -1,6 +1,6 @@
 //! What the calling thread posts before a worker starts, as worker 0: what is known of the game, Even's claim and then Odd's.
 
-ghost use Rattle.std.specs.Prelude.{◌≡◌, ◌≤◌, length, IfOk, IfErr, OnOk};
+ghost use Rattle.std.specs.Prelude.{◌≡◌, ◌≤◌, length, IfOk, IfErr};
 ghost use Rattle.pg_workers.specs.KnownRegions.{known_rows, HasNone, IsSolveFault};
 ghost use Rattle.pg_workers.specs.private.KnownPosts.{fault_of, HasKnown, IsKnownFault, SettlesKnown};
 
@@ -44,36 +44,35 @@ pub(crate) fn board_with<'g>(alloc: Global, of: &KnownOf<'g>) -> Result<Board<'g
     ensures known { IfOk result (λ b. HasKnown of.now.game.now of.now.known.now.rows b.journal) }
     ensures fault { IfErr result (λ e. IsSolveFault of.now.game.now of.now.known.now.rows e) }
 {
-    let mut board = Board::open(alloc, of.game)?;
+    let board = Board::open(alloc, of.game)?;
     // for the proof, here and below: reading the board gives that its journal is lawful
     let _opened = board.game();
-    post_known(alloc, &mut board, of, Player::Even)?;
-    let _posted = board.game();
-    post_known(alloc, &mut board, of, Player::Odd)?;
-    Ok(board)
+    let with_even = with_known(alloc, board, of, Player::Even)?;
+    let _posted = with_even.game();
+    with_known(alloc, with_even, of, Player::Odd)
 }
 
-/// Posts the player's known set as worker 0, unless it is empty.
-fn post_known(
+/// The board with a post of the player's known set as worker 0, unless the set is empty.
+fn with_known<'g>(
     alloc: Global,
-    board: &mut Board<'_>,
-    of: &KnownOf<'_>,
+    mut board: Board<'g>,
+    of: &KnownOf<'g>,
     player: Player,
-) -> Result<(), SolveFault>
-    requires game { board.old.graph ≡ of.now.game.now }
-    requires none { HasNone board.old.journal player }
-    ensures graph { board.new.graph ≡ of.now.game.now }
-    ensures settles { OnOk result (SettlesKnown board.old board.new of.now.known.now.rows player) }
-    ensures fault { IfErr result (λ e. IsKnownFault of.now.game.now board.old.journal of.now.known.now.rows player e) }
+) -> Result<Board<'g>, SolveFault>
+    requires game { board.graph ≡ of.now.game.now }
+    requires none { HasNone board.journal player }
+    ensures graph { IfOk result (λ b. b.graph ≡ of.now.game.now) }
+    ensures settles { IfOk result (λ b. SettlesKnown board.entry b of.now.known.now.rows player) }
+    ensures fault { IfErr result (λ e. IsKnownFault of.now.game.now board.entry.journal of.now.known.now.rows player e) }
 {
     // for the proof: the game is one, and the board's journal is lawful
     let _before = board.game();
     let claim = known_claim(alloc, of, player)?;
     if claim.rows.as_slice().is_empty() {
-        return Ok(());
+        return Ok(board);
     }
     match board.post(alloc, 0, &claim) {
-        Ok(_) => Ok(()),
+        Ok(_) => Ok(board),
         Err(refusal) => Err(solve_fault(player, refusal)),
     }
 }

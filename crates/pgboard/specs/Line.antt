@@ -54,9 +54,11 @@ program = record {
 }
 
 -- the number that was given under a name, or is its default
-abbrev pub IsNumber : Text → List Row → ℕ → Type 0
-IsNumber name rows n = (text : Text) × (one_of name rows ≡ Some text) × IsNumeral 10 (without_leading_plus text)
-    × (n ≡ digits_value 10 (without_leading_plus text))
+pub record IsNumber (name : Text) (rows : List Row) (n : ℕ) : Type 0 where
+  pub text : Text
+  pub given : one_of name rows ≡ Some text
+  pub digits : IsNumeral 10 (without_leading_plus text)
+  pub value : n ≡ digits_value 10 (without_leading_plus text)
 
 -- whether the flag of a name was given: its value is one of two words
 abbrev pub IsFlag : Text → List Row → Bool → Type 0
@@ -66,14 +68,21 @@ IsFlag name rows given = (one_of name rows ≡ Some (codes "true") → given ≡
 abbrev pub IsPath : Text → List Row → Option Text → Type 0
 IsPath name rows path = (first_of name rows ≡ path) × (is_some (all_of name rows) ≡ is_some path)
 
+-- the values ask for a game to be solved
+pub record AskToSolve (rows : List Row) (workers bound : ℕ) (winners : Bool) (known game : Option Text) : Type 0 where
+  pub workers_are : IsNumber (codes "workers") rows workers
+  pub bound_is : IsNumber (codes "bound") rows bound
+  pub winners_are : IsFlag (codes "winners") rows winners
+  pub known_is : IsPath (codes "known") rows known
+  pub game_is : IsPath (codes "GAME") rows game
+
 -- a command of this name, with these values, asks for this: each field is the value of its own name
 abbrev pub IsRead : Option (Text × List Row) → Asked → Type 0
 IsRead (Some (name, rows)) (Verify game solution) =
     (name ≡ codes "verify") × (first_of (codes "GAME") rows ≡ Some (string_bytes game)) × (first_of (codes "SOLUTION") rows ≡ Some (string_bytes solution))
 IsRead (Some (name, rows)) (Tidy game) = (name ≡ codes "tidy") × IsPath (codes "GAME") rows (option_map (λ path. string_bytes path) game)
 IsRead (Some (name, rows)) (Solve workers bound winners known game) =
-    (name ≡ codes "solve") × IsNumber (codes "workers") rows workers × IsNumber (codes "bound") rows bound × IsFlag (codes "winners") rows winners
-    × IsPath (codes "known") rows (option_map (λ path. string_bytes path) known) × IsPath (codes "GAME") rows (option_map (λ path. string_bytes path) game)
+    (name ≡ codes "solve") × AskToSolve rows workers bound winners (option_map (λ path. string_bytes path) known) (option_map (λ path. string_bytes path) game)
 IsRead (Some (name, rows)) (Trace workers game) =
     (name ≡ codes "trace") × IsNumber (codes "workers") rows workers × IsPath (codes "GAME") rows (option_map (λ path. string_bytes path) game)
 IsRead _ _ = ⊥

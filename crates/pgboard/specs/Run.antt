@@ -49,10 +49,17 @@ pub record ReadsInTurn {A : Type 0} (result : Result A RunFault) (game : Option 
   pub unread : IfErr result (λ e. IsGameFault e → Unread)
   pub failed : IsErrOf result fault.Read → (HasFailed old new × Unread) ⊎ ((g : Graph) × IsReadGame game g × Failed)
 
+-- a prefix of an output went out
+pub record IsCut {A : Type 0} (IsOutput : A → List ℕ → Type 0) (old new : Option (List ℕ)) : Type 0 where
+  pub answer : A
+  pub text : List ℕ
+  pub output : IsOutput answer text
+  pub prefix : AppendsPrefix old new text
+
 -- a run writes an output: all of it; or, if a write failed, a prefix of one; or, for another fault, nothing
 pub record Writes {A : Type 0} (IsOutput : A → List ℕ → Type 0) (result : Result A RunFault) (old new : Option (List ℕ)) (failures later : ℕ) : Type 0 where
   pub written : IfOk result (λ a. (text : List ℕ) × IsOutput a text × Appends old new text)
-  pub cut : IsErrOf result fault.Write → (a : A) × (text : List ℕ) × IsOutput a text × AppendsPrefix old new text
+  pub cut : IsErrOf result fault.Write → IsCut IsOutput old new
   pub nothing : IfErr result (λ e. e ≢ fault.Write → Keeps old new)
   pub no_failure : (IsErrOf result fault.Write → ⊥) → later ≡ failures
   pub failed : IsErrOf result fault.Write → HasFailed failures later

@@ -52,7 +52,8 @@ fn command<'a>(alloc: Global) -> Result<Command<'a>, AllocError>
     let with_solve = with(alone, solve_command(alloc))?;
     let with_trace = with(with_solve, trace_command(alloc))?;
     let with_verify = with(with_trace, verify_command(alloc))?;
-    with(with_verify, tidy_command(alloc))
+    let with_tidy = with(with_verify, tidy_command(alloc))?;
+    Ok(with_tidy)
 }
 
 /// The kit's line is what `rt version` prints, without the letter of the release. The last words hold the place of what the

@@ -255,7 +255,11 @@ fn known_fault(of: &KnownOf<'_>, player: Player, refusal: Refusal) -> KnownFault
         }
         Refusal::Claim(ClaimFault::Cycle(v)) => KnownFault::Cycle(game.id(v)),
         Refusal::Lost(v) => KnownFault::Lost(game.id(v)),
-        Refusal::Open(v, w) => KnownFault::Open(game.id(v), game.id(w)),
+        Refusal::Open(v, w) => {
+            let from = game.id(v);
+            let to = game.id(w);
+            KnownFault::Open(from, to)
+        }
         Refusal::Claim(ClaimFault::Memory) => unreachable!(),
         Refusal::Foreign(_) | Refusal::Stale | Refusal::Memory => unreachable!(),
     }

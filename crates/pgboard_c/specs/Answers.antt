@@ -50,9 +50,13 @@ IsResultMisfit g r array_name.Choices = (length r.winners ≡ length g) × (leng
 IsResultMisfit g r other = ⊥
 
 -- the struct fits the game, and its arrays have the one solution's winners, and choices that make them a solution
-abbrev pub AreSolved : GameLists → ResultLists → Type 0
-AreSolved a r =
-    (g : Graph) × (rows : SolutionRows) × IsGameOfArrays a g × HaveSize g r × AreResults r.winners r.choices rows × IsExactSolution g rows
+pub record AreSolved (a : GameLists) (r : ResultLists) : Type 0 where
+  pub graph : Graph
+  pub rows : SolutionRows
+  pub game : IsGameOfArrays a graph
+  pub fit : HaveSize graph r
+  pub results : AreResults r.winners r.choices rows
+  pub exact : IsExactSolution graph rows
 
 -- why the struct for results does not fit the game's vertices
 abbrev pub AreUnfitResults : Graph → ResultLists → Fault → Type 0
@@ -80,9 +84,13 @@ IsUnfitSolution g s (fault.Solution name) = (s.size ≡ structure_size structure
 IsUnfitSolution g s other = ⊥
 
 -- the struct fits the game, and its arrays are a solution
-abbrev pub AreSolution : GameLists → ResultLists → Type 0
-AreSolution a s =
-    (g : Graph) × (rows : SolutionRows) × IsGameOfArrays a g × HaveSize g s × AreResults s.winners s.choices rows × IsSolution g rows
+pub record AreSolution (a : GameLists) (s : ResultLists) : Type 0 where
+  pub graph : Graph
+  pub rows : SolutionRows
+  pub game : IsGameOfArrays a graph
+  pub fit : HaveSize graph s
+  pub results : AreResults s.winners s.choices rows
+  pub solution : IsSolution graph rows
 
 -- why they are no solution, or not even winners and choices
 abbrev pub IsCheckFault : GameLists → ResultLists → Fault → Type 0

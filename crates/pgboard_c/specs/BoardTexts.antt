@@ -8,7 +8,7 @@ use Rattle.pg_board.specs.Full.{IsFull, AreStateRows}
 use Rattle.pgboard_c.specs.declared.fault.BoardFault.TheVariants as board_fault
 use Rattle.pgboard_c.specs.declared.fault.Fault.{Fault}
 use Rattle.pgboard_c.specs.declared.fault.Fault.TheVariants as fault
-use Rattle.pgboard_c.specs.Texts.{IsWritten}
+use Rattle.pgboard_c.specs.Texts.{TextBuffer, IsWritten}
 use Rattle.pgboard_c.specs.Board.{SessionOutcome, IsReadOutcome}
 
 -- the board is full, and the text has its winners and choices, which are the game's solution
@@ -24,6 +24,6 @@ IsSolutionTextFault s capacity (fault.Board (board_fault.Unsettled n)) =
 IsSolutionTextFault s capacity (fault.Capacity size) = (text : List ℕ) × IsSolutionText s text × (size ≡ length text) × (capacity < size)
 IsSolutionTextFault s capacity other = ⊥
 
-abbrev pub IsSolutionTextOutcome : List ℕ → List ℕ → ℕ → ℕ → SessionOutcome
-IsSolutionTextOutcome old new old_size size = IsReadOutcome (λ s. (answer : List ℕ) × IsSolutionText s answer × IsWritten old new size answer)
-    (λ s. IsSolutionTextFault s (length old)) ((new ≡ old) × (size ≡ old_size))
+abbrev pub IsSolutionTextOutcome : TextBuffer → TextBuffer → SessionOutcome
+IsSolutionTextOutcome old new = IsReadOutcome (λ s. (answer : List ℕ) × IsSolutionText s answer × IsWritten old new answer)
+    (λ s. IsSolutionTextFault s (length old.bytes)) (new ≡ old)

@@ -62,10 +62,18 @@ IsRefusedKnown g known (fault.Known (known_fault.Leaves v w)) =
 IsRefusedKnown g known other = ⊥
 
 -- the same as AreSolved, each player's known set is a region of his, and he keeps its vertices and the choices at those that he owns
-abbrev pub AreSolvedFrom : GameLists → ResultLists → ResultLists → Type 0
-AreSolvedFrom a k r =
-    (g : Graph) × (known : KnownRows) × (rows : SolutionRows) × IsGameOfArrays a g × FitsAsKnown g k × AreKnown k.winners k.choices known
-    × ((p : Player) → IsKnownRegion g known p) × KeepsKnown g known (λ v. slice_get rows v) × HaveSize g r × AreResults r.winners r.choices rows × IsExactSolution g rows
+pub record AreSolvedFrom (a : GameLists) (k r : ResultLists) : Type 0 where
+  pub graph : Graph
+  pub known : KnownRows
+  pub rows : SolutionRows
+  pub game : IsGameOfArrays a graph
+  pub known_fits : FitsAsKnown graph k
+  pub known_is : AreKnown k.winners k.choices known
+  pub regions : (p : Player) → IsKnownRegion graph known p
+  pub kept : KeepsKnown graph known (λ v. slice_get rows v)
+  pub fit : HaveSize graph r
+  pub results : AreResults r.winners r.choices rows
+  pub exact : IsExactSolution graph rows
 
 -- why solving from what is known has no result: the game comes first, then what is known as arrays, then the results, then what it means
 abbrev pub IsSolveFromFault : GameLists → ResultLists → ResultLists → Fault → Type 0

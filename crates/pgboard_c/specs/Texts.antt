@@ -8,9 +8,17 @@ use Rattle.pg_dominion.specs.Verdict.{FailsBy}
 use Rattle.pgboard_c.specs.declared.fault.Fault.{Fault}
 use Rattle.pgboard_c.specs.declared.fault.Fault.TheVariants as fault
 
+-- where a call writes a text: a buffer, and a number for the text's size
+pub record TextBuffer : Type 0 where
+  pub bytes : List ℕ
+  pub size : ℕ
+
+abbrev pub text_buffer : List ℕ → ℕ → TextBuffer
+text_buffer bytes size = record { bytes = bytes; size = size }
+
 -- the text is at the front of the buffer, and the bytes after it are unchanged
-abbrev pub IsWritten : List ℕ → List ℕ → ℕ → List ℕ → Type 0
-IsWritten old new size text = (size ≡ length text) × (new ≡ text ++ drop size old)
+abbrev pub IsWritten : TextBuffer → TextBuffer → List ℕ → Type 0
+IsWritten old new text = (new.size ≡ length text) × (new.bytes ≡ text ++ drop new.size old.bytes)
 
 -- a solution of the game that a text spells, with a choice exactly where the winner owns the vertex
 abbrev pub IsSolvedText : List ℕ → List ℕ → Type 0
@@ -33,9 +41,9 @@ IsTextFault Is text capacity (fault.Capacity size) = (answer : List ℕ) × Is t
 IsTextFault Is text capacity other = IsRefusedGameText text other
 
 -- the text's answer of the kind is at the front of the buffer, and its size is reported; or there is none, and both are unchanged
-abbrev pub IsTextOutcome : (List ℕ → List ℕ → Type 0) → List ℕ → List ℕ → List ℕ → ℕ → ℕ → Result (Unit {0}) Fault → Type 0
-IsTextOutcome Is text old new old_size size result = MatchResult result
-    (λ _. (answer : List ℕ) × Is text answer × IsWritten old new size answer) (λ e. IsTextFault Is text (length old) e × (new ≡ old) × (size ≡ old_size))
+abbrev pub IsTextOutcome : (List ℕ → List ℕ → Type 0) → List ℕ → TextBuffer → TextBuffer → Result (Unit {0}) Fault → Type 0
+IsTextOutcome Is text old new result = MatchResult result
+    (λ _. (answer : List ℕ) × Is text answer × IsWritten old new answer) (λ e. IsTextFault Is text (length old.bytes) e × (new ≡ old))
 
 -- the texts spell a game and a solution of it
 abbrev pub AreVerified : List ℕ → List ℕ → Type 0

@@ -3,7 +3,7 @@
 ghost use Rattle.std.specs.Prelude.{Some};
 ghost use Rattle.pg_text.specs.Reading.{IsTextOf};
 ghost use Rattle.pgboard_c.specs.Numbers.{Returns};
-ghost use Rattle.pgboard_c.specs.Texts.{IsRefusedGameText};
+ghost use Rattle.pgboard_c.specs.Texts.{text_buffer, IsRefusedGameText};
 ghost use Rattle.pgboard_c.specs.Board.{IsOpenOutcome, OnHandle};
 ghost use Rattle.pgboard_c.specs.BoardTexts.{IsSolutionTextOutcome};
 
@@ -37,7 +37,7 @@ pub extern "C" fn pgboard_board_solution_text(
     size: &mut usize,
     report: &mut Report,
 ) -> u32
-    ensures { Returns (OnHandle (IsSolutionTextOutcome into.old into.new size.old size.new) board.old board.new) result report.new }
+    ensures { Returns (OnHandle (IsSolutionTextOutcome (text_buffer into.old size.old) (text_buffer into.new size.new)) board.old board.new) result report.new }
 {
     reported(report, solution(alloc, board, into, size))
 }
@@ -61,7 +61,7 @@ fn solution(
     into: &mut [u8],
     size: &mut usize,
 ) -> Result<(), Fault>
-    ensures { OnHandle (IsSolutionTextOutcome into.old into.new size.old size.new) board.old board.new result }
+    ensures { OnHandle (IsSolutionTextOutcome (text_buffer into.old size.old) (text_buffer into.new size.new)) board.old board.new result }
 {
     let session = board.take(alloc)?;
     let answer = write_text(alloc, &session, into, size);
@@ -76,7 +76,7 @@ fn write_text(
     into: &mut [u8],
     size: &mut usize,
 ) -> Result<(), Fault>
-    ensures { IsSolutionTextOutcome into.old into.new size.old size.new (Some session.now) (Some session.now) result }
+    ensures { IsSolutionTextOutcome (text_buffer into.old size.old) (text_buffer into.new size.new) (Some session.now) (Some session.now) result }
 {
     let game = session.game();
     let Some(solution) = session.solution(alloc)? else {

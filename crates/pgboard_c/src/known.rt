@@ -108,7 +108,7 @@ fn set_fault(of: &KnownOf<'_>, player: Player, refusal: Refusal) -> Fault
         Refusal::Claim(ClaimFault::Cycle(v)) => Fault::Known(KnownSetFault::Cycle(v)),
         Refusal::Lost(v) => Fault::Known(KnownSetFault::Lost(v)),
         Refusal::Open(v, w) => Fault::Known(KnownSetFault::Leaves(v, w)),
-        Refusal::Claim(ClaimFault::Shape(_)) => unreachable!(),
+        Refusal::Claim(ClaimFault::Shape(_row)) => unreachable!(),
         Refusal::Claim(ClaimFault::Memory) => unreachable!(),
         Refusal::Foreign(_) | Refusal::Stale | Refusal::Memory => unreachable!(),
     }

@@ -4,7 +4,7 @@ ghost use Rattle.std.specs.Prelude.{◌≡◌, ◌<◌, ℕ, List, length, IfOk,
 ghost use Rattle.pg_game.specs.Graph.{IsGame};
 ghost use Rattle.pg_text.specs.Reading.{IsTextOf};
 ghost use Rattle.pgboard_c.specs.Numbers.{Returns};
-ghost use Rattle.pgboard_c.specs.Texts.{IsWritten, IsSolvedText, IsTidyText, IsTextOutcome, IsRefusedGameText, IsVerifyOutcome};
+ghost use Rattle.pgboard_c.specs.Texts.{text_buffer, IsWritten, IsSolvedText, IsTidyText, IsTextOutcome, IsRefusedGameText, IsVerifyOutcome};
 
 use crate::fault::{Fault, Report, reported};
 use pg_board::Board;
@@ -27,7 +27,7 @@ pub extern "C" fn pgboard_solve_text(
     size: &mut usize,
     report: &mut Report,
 ) -> u32
-    ensures { Returns (IsTextOutcome IsSolvedText game.now into.old into.new size.old size.new) result report.new }
+    ensures { Returns (IsTextOutcome IsSolvedText game.now (text_buffer into.old size.old) (text_buffer into.new size.new)) result report.new }
 {
     reported(report, solve(alloc, game, into, size))
 }
@@ -42,7 +42,7 @@ pub extern "C" fn pgboard_tidy_text(
     size: &mut usize,
     report: &mut Report,
 ) -> u32
-    ensures { Returns (IsTextOutcome IsTidyText game.now into.old into.new size.old size.new) result report.new }
+    ensures { Returns (IsTextOutcome IsTidyText game.now (text_buffer into.old size.old) (text_buffer into.new size.new)) result report.new }
 {
     reported(report, tidy(alloc, game, into, size))
 }
@@ -63,7 +63,7 @@ pub extern "C" fn pgboard_verify_text(
 
 /// Writes a solution of the game that a text spells, and its size.
 fn solve(alloc: Global, text: &[u8], into: &mut [u8], size: &mut usize) -> Result<(), Fault>
-    ensures { IsTextOutcome IsSolvedText text.now into.old into.new size.old size.new result }
+    ensures { IsTextOutcome IsSolvedText text.now (text_buffer into.old size.old) (text_buffer into.new size.new) result }
 {
     let forward = forward_game_of(alloc, text)?;
     let game = Game::of_forward(alloc, forward)?;
@@ -91,8 +91,9 @@ pub fn forward_game_of(alloc: Global, text: &[u8]) -> Result<ForwardGame, Fault>
 
 /// Copies the text to the front of the buffer, and its size.
 pub fn copy_to_front(text: &[u8], into: &mut [u8], size: &mut usize) -> Result<(), Fault>
-    ensures { MatchResult result (λ _. IsWritten into.old into.new size.new text.now)
-        (λ e. (e ≡ Fault.Capacity (length text.now)) × (length into.old < length text.now) × (into.new ≡ into.old) × (size.new ≡ size.old)) }
+    ensures { MatchResult result (λ _. IsWritten (text_buffer into.old size.old) (text_buffer into.new size.new) text.now)
+        (λ e. (e ≡ Fault.Capacity (length text.now)) × (length into.old < length text.now)
+        × (text_buffer into.new size.new ≡ text_buffer into.old size.old)) }
 {
     let n = text.len();
     if into.len() < n {
@@ -105,7 +106,7 @@ pub fn copy_to_front(text: &[u8], into: &mut [u8], size: &mut usize) -> Result<(
 
 /// Writes the game that a text spells in its one written form, and its size.
 fn tidy(alloc: Global, text: &[u8], into: &mut [u8], size: &mut usize) -> Result<(), Fault>
-    ensures { IsTextOutcome IsTidyText text.now into.old into.new size.old size.new result }
+    ensures { IsTextOutcome IsTidyText text.now (text_buffer into.old size.old) (text_buffer into.new size.new) result }
 {
     let game = forward_game_of(alloc, text)?;
     let answer = write_forward_game(alloc, &game)?;

@@ -207,9 +207,11 @@ def run(name, main):
         fault = Refused(f"{where}: {error.strerror}" if where else str(error.strerror), FILE)
         # what is still to be written is not tried once more
         os.dup2(os.open(os.devnull, os.O_WRONLY), 1)
-    # (where this can't be written, the status says so alone: Python's own would be 1, an answer)
-    with contextlib.suppress(OSError):
+    try:
         sys.stderr.write(fault.said(name))
+    except OSError:
+        # (the status says so alone, and Python's own, 1 or 120, does not come for what is left in the buffer)
+        os.dup2(os.open(os.devnull, os.O_WRONLY), 2)
     sys.exit(fault.status)
 
 

@@ -1,7 +1,7 @@
 -- The state of a full journal is a solution.
 use Rattle.pg_board.proofs.Common.{rules, ◌≡◌, ℕ, zero, suc, ◌<◌, Bool, true, false, inl, inr, [], ◌∷◌, ◌++◌, length, refl, sym, ◌∙◌, ap, subst, arith, lt-ltb}
 use Rattle.pg_board.proofs.Common.{ltb-true, Option, Some, None, nat_lt, slice_get, if◌then◌else◌, fun_ext, false_from_ne_true, cases_Bool, take-append-drop}
-use Rattle.pg_board.proofs.Common.{Player, Even, opponent, Graph, owner_of, VertexSet, In, IsRegion, Wins, own_or_other, is_same, IsExactSolution, named}
+use Rattle.pg_board.proofs.Common.{Player, Even, opponent, Graph, owner_of, VertexSet, IsRegion, Wins, own_or_other, is_same, IsExactSolution, named}
 use Rattle.pg_board.proofs.Common.{choice_in, named_right, named-append, choice-front, choice-back, place_of, Entry, is_winner, choice_in_row, State, settled}
 use Rattle.pg_board.proofs.Common.{choices, Journal, state_of, claimed_rows, attracted_rows, IsLawful, AreStateRows}
 use Rattle.std.proofs.Common.{◌≢◌}
@@ -67,10 +67,12 @@ module _ (g : Graph) (j : Journal) (lawful : IsLawful g j) where
         ((lawful_now g j lawful).regions p))
 
     winner_wins : (p : Player) (v : ℕ) → v < length g → winner_of rows v ≡ p → Wins g p v
-    winner_wins p v l e = (won_by rows p, choice_of rows, regions p, inside)
-      where
-        inside : In (won_by rows p) v
-        inside = rw (are.size, lt-ltb v (length g) l, e) (is_same p p refl)
+    winner_wins p v l e = record {
+      vertices = won_by rows p;
+      choices = choice_of rows;
+      region = regions p;
+      inside = rw (are.size, lt-ltb v (length g) l, e) (is_same p p refl);
+    }
 
     wins_winner : (p : Player) (v : ℕ) → v < length g → Wins g p v → winner_of rows v ≡ p
     wins_winner p v l w =

@@ -1,10 +1,9 @@
 -- The tables of a board beside its journal.
-use Rattle.std.specs.Prelude.{ℕ, ◌≡◌, ◌<◌, List, length, slice_index, Some, None, if◌then◌else◌, slice_index_or}
+use Rattle.std.specs.Prelude.{ℕ, ◌≡◌, List, length, Some, None, if◌then◌else◌, slice_index_or}
 use Rattle.pg_game.specs.declared.player.Player.{Player}
-use Rattle.pg_game.specs.Graph.{Graph, successors_of}
+use Rattle.pg_game.specs.Graph.{Graph}
 use Rattle.pg_game.specs.VertexSet.{members}
 use Rattle.pg_dominion.specs.Claim.{ClaimRows, named, choice_in}
-use Rattle.pg_dominion.specs.private.FreeVertices.{ArePassed}
 use Rattle.pg_board.specs.declared.regions.Regions.{Regions}
 use Rattle.pg_board.specs.declared.regions.VertexState.{VertexState}
 use Rattle.pg_board.specs.declared.regions.VertexState.TheVariants.{Unsettled}
@@ -20,13 +19,12 @@ table_state table v = state_in (slice_index_or table v Unsettled)
 abbrev pub state_with : State → Player → ClaimRows → State
 state_with st p rows v = if is_unsettled (st v) then (if named rows v then Some (p, choice_in rows v) else None) else st v
 
--- one row for each vertex; the mask has the unsettled ones, and each vertex has passed only settled successors
+-- one row for each vertex; the mask has the unsettled ones, and each vertex has a cursor
 pub record AreRegions (g : Graph) (r : Regions) : Type 0 where
   pub size : length r.table.items ≡ length g
   pub mask_size : length r.unsettled ≡ length g
-  pub passed_size : length r.passed.items ≡ length g
+  pub cursors_size : length r.cursors.places.items ≡ length g
   pub mask : (v : ℕ) → members r.unsettled v ≡ unsettled g (table_state r.table.items) v
-  pub passes : (v : ℕ) → v < length g → ArePassed (successors_of g v) r.unsettled (slice_index r.passed.items v)
 
 -- the journal is lawful, and the table and the number are its state and its number settled
 pub record IsBoard (g : Graph) (journal : Journal) (r : Regions) (number : ℕ) : Type 0 where

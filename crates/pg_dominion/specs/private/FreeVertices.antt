@@ -1,9 +1,9 @@
--- An unfinished attraction: the free vertices, the rows so far, and at each vertex how many successors
--- are known to be of no use.
-use Rattle.std.specs.Prelude.{ℕ, ◌≡◌, ◌≢◌, ◌≤◌, ◌<◌, ◌∷◌, ◌++◌, Bool, false, ◌⊎◌, List, length, take, slice_index, Option}
+-- An unfinished attraction: the free vertices, the rows so far, and a cursor for each vertex.
+use Rattle.std.specs.Prelude.{ℕ, ◌≡◌, ◌≢◌, ◌≤◌, ◌∷◌, ◌++◌, Bool, false, ◌⊎◌, List, length, take, Option}
 use Rattle.pg_game.specs.declared.player.Player.{Player}
-use Rattle.pg_game.specs.Graph.{Graph, owner_of, successors_of}
+use Rattle.pg_game.specs.Graph.{Graph, owner_of}
 use Rattle.pg_game.specs.VertexSet.{VertexSet, In, members, union}
+use Rattle.pg_dominion.specs.declared.cursors.Cursors.{Cursors}
 use Rattle.pg_dominion.specs.Claim.{ClaimRows, named}
 use Rattle.pg_dominion.specs.Attraction.{IsAttractedRow}
 use Rattle.pg_dominion.specs.AttractorState.{HasOpen}
@@ -13,17 +13,11 @@ pub record Continues (old new : ClaimRows) : Type 0 where
   pub longer : length old ≤ length new
   pub front : (n : ℕ) → n ≤ length old → take n new ≡ take n old
 
--- the first vertices, up to this number, are not in the mask
-pub record ArePassed (ws : List ℕ) (mask : List Bool) (count : ℕ) : Type 0 where
-  pub within : count ≤ length ws
-  pub gone : (k : ℕ) → k < count → members mask (slice_index ws k) ≡ false
-
--- the rows have no vertex of the mask, and each vertex has passed only successors outside the mask
-pub record IsFree (g : Graph) (mask : List Bool) (passed : List ℕ) (rows : ClaimRows) : Type 0 where
+-- the rows have no vertex of the mask, and each vertex has a cursor
+pub record IsFree (g : Graph) (mask : List Bool) (cursors : Cursors) (rows : ClaimRows) : Type 0 where
   pub size : length mask ≡ length g
-  pub passed_size : length passed ≡ length g
+  pub cursors_size : length cursors.places.items ≡ length g
   pub apart : (v : ℕ) → In (named rows) v → members mask v ≡ false
-  pub passes : (v : ℕ) → v < length g → ArePassed (successors_of g v) mask (slice_index passed v)
 
 -- from the place n on each row leads to earlier ones
 abbrev pub LeadFrom : Graph → Player → VertexSet → ℕ → ClaimRows → Type 0

@@ -19,7 +19,7 @@ ghost use Rattle.pg_finders.specs.private.recursion.Plans.{winners_of, choices_o
 ghost use Rattle.pg_finders.specs.private.Solved.{IsBegun};
 
 use crate::inside::{View, successor_in};
-use pg_dominion::{AttractorState, attract_from};
+use pg_dominion::{AttractorState, Cursors, attract_from};
 use pg_game::{Game, Mask, Memory, Player};
 use std::alloc::Global;
 
@@ -138,7 +138,7 @@ impl Subgame {
                 None => Ok(()),
             };
         }
-        if self.cursors.find_active(view.game, &self.active, v) {
+        if self.cursors.find_successor(view.game, &self.active, v) {
             return Ok(());
         }
         self.take(view.game, player, v, None, list)
@@ -230,7 +230,7 @@ impl AttractorState for Subgame {
     }
 
     fn find_way_out(&mut self, game: &Game, _list: &Vec<u32>, v: u32) -> bool {
-        self.cursors.find_active(game, &self.active, v)
+        self.cursors.find_successor(game, &self.active, v)
     }
 
     fn take(
@@ -329,47 +329,5 @@ fn remove_all(mask: &mut Mask, list: &[u32])
 {
     for v in list {
         mask.remove(*v);
-    }
-}
-
-/// The places where searches begin, one for each vertex.
-#[derive(Drop)]
-pub struct Cursors {
-    places: Vec<u32>,
-}
-
-impl Cursors {
-    /// Each search begins at the first successor.
-    pub fn new(alloc: Global, n: u32) -> Result<Cursors, Memory>
-        ensures { IfOk result (λ cursors. length cursors.places.items ≡ n) }
-    {
-        Ok(Cursors {
-            places: vec![in alloc; 0u32; n as usize]?,
-        })
-    }
-
-    /// Whether a successor of `v` is active.
-    pub fn find_active(&mut self, game: &Game, active: &Mask, v: u32) -> bool
-        requires places { length self.old.places.items ≡ length game.now }
-        requires size { length active.now ≡ length game.now }
-        requires vertex { v < length game.now }
-        ensures places { length self.new.places.items ≡ length game.now }
-        ensures found { IsTrue result → (w : ℕ) × HasEdge game.now v w × In (members active.now) w }
-        ensures none { IsFalse result → IsOut game.now (members active.now) v }
-    {
-        let successors = game.successors(v);
-        let end = successors.len() as u32;
-        let begin = self.places[v as usize].min(end);
-        let at = active.first_of(successors, begin, end);
-        if at < end {
-            self.places[v as usize] = at;
-            return true;
-        }
-        let at = active.first_of(successors, 0, begin);
-        if at < begin {
-            self.places[v as usize] = at;
-            return true;
-        }
-        false
     }
 }

@@ -50,16 +50,22 @@ module _ (x y : Vertex) where
 pub graphs_decide : (g h : Graph) → Decides (same_graph g h) (g ≡ h)
 graphs_decide g h = pointwise_decides vertices_decide g h
 
+pub record AreSameParts (ids ps ids' ps' : List ℕ) (os os' : List Player) (rows rows' : List (List ℕ)) : Type 0 where
+  pub same_ids : ids ≡ ids'
+  pub same_priorities : ps ≡ ps'
+  pub same_owners : os ≡ os'
+  pub same_rows : rows ≡ rows'
+
 -- games are equal exactly where their parts are
 pub same_parts : {ids ps ids' ps' : List ℕ} {os os' : List Player} {rows rows' : List (List ℕ)} {g h : Graph} → AreParts ids ps os rows
     → AreParts ids' ps' os' rows' →
-    graph_of ids ps os rows ≡ g → graph_of ids' ps' os' rows' ≡ h → g ≡ h → (ids ≡ ids') × (ps ≡ ps') × (os ≡ os') × (rows ≡ rows')
-same_parts a b is is' e = (
-  sym (part.ids_are a (is ∙ e)) ∙ part.ids_are b is',
-  sym (part.priorities_are a (is ∙ e)) ∙ part.priorities_are b is',
-  sym (part.owners_are a (is ∙ e)) ∙ part.owners_are b is',
-  sym (part.rows_are a (is ∙ e)) ∙ part.rows_are b is',
-)
+    graph_of ids ps os rows ≡ g → graph_of ids' ps' os' rows' ≡ h → g ≡ h → AreSameParts ids ps ids' ps' os os' rows rows'
+same_parts a b is is' e = record {
+  same_ids = sym (part.ids_are a (is ∙ e)) ∙ part.ids_are b is';
+  same_priorities = sym (part.priorities_are a (is ∙ e)) ∙ part.priorities_are b is';
+  same_owners = sym (part.owners_are a (is ∙ e)) ∙ part.owners_are b is';
+  same_rows = sym (part.rows_are a (is ∙ e)) ∙ part.rows_are b is';
+}
 
 pub player_decides : (t : Player → Player → Bool) → t Even Even ≡ true → t Even Odd ≡ false → t Odd Even ≡ false → t Odd Odd ≡ true
     → (p q : Player) → Decides (t p q) (p ≡ q)

@@ -115,8 +115,14 @@ pub joins : (total seats id : ℕ) (v : Drawer) (other : ℕ) (w : Drawer) → 0
     → Joins (λ s. IsDrawn total seats s) id v other w (both_drawers v w) spent_drawer
 joins total seats id v other w some_ticket s h at apart there = grind (arith, ⊎_elim, get_elem?, at_set, sum_by-set_at, length-append, sum_by-append)
 
+-- the view has each number below the total that the word has counted
+pub record KnowsAll (total : ℕ) (v : Drawer) : Type 0 where
+  pub word : ℕ
+  pub fair : (x : ℕ) → times x v.drawn ≡ once_below x (min total word)
+  pub drawn : length v.drawn ≡ min total word
+  pub steps : word ≡ min total word + v.told_none
+
 -- who has every ticket knows every number
 pub knows_all : (total seats id : ℕ) (v : Drawer) (s : State (Unit {0}) Drawer) → IsDrawn total seats s → get_elem? s.views id ≡ some v
-    → v.tickets ≡ seats → (word : ℕ) × ((x : ℕ) → times x v.drawn ≡ once_below x (min total word)) × (length v.drawn ≡ min total word) ×
-    (word ≡ min total word + v.told_none)
+    → v.tickets ≡ seats → KnowsAll total v
 knows_all total seats id v s h at whole = search (rules, s.views, v.tickets, h.tickets, alone, h.each, h.steps, h.drawn, h.word)

@@ -44,21 +44,24 @@ counted [] i r e = absurd (none-some r e)
 counted (x ∷ rows) zero r e = grind (arith, common_steps, sum_by-cons, at_job, same_Some, is_one)
 counted (x ∷ rows) (suc i) r e = search (rules, counted rows i r e, sum_by-cons, at_job)
 
-abbrev Found : ℕ → List ReportRow → Type 0
-Found j rows = (i : ℕ) × (r : ReportRow) × (slice_get rows i ≡ Some r) × (r.job ≡ j)
+-- a row of the job, and its place
+pub record Found (j : ℕ) (rows : List ReportRow) : Type 0 where
+  pub place : ℕ
+  pub row : ReportRow
+  pub is : slice_get rows place ≡ Some row
+  pub of_job : row.job ≡ j
 
 -- a row of a job that is counted is in the list
-pub found_row : (j : ℕ) (rows : List ReportRow) → 0 < how_many_of_job j rows
-    → (i : ℕ) × (r : ReportRow) × (slice_get rows i ≡ Some r) × (r.job ≡ j)
+pub found_row : (j : ℕ) (rows : List ReportRow) → 0 < how_many_of_job j rows → Found j rows
 found_row j [] h = absurd (omega arith)
 found_row j (x ∷ rows) h = go (λ some. found_row j rows some) (x.job == j) refl
   where
     go : (0 < how_many_of_job j rows → Found j rows) → (b : Bool) → (x.job == j) ≡ b → Found j (x ∷ rows)
-    go rest true e = (0, x, refl, grind (arith, nat_tests, e))
+    go rest true e = record { place = 0; row = x; is = refl; of_job = grind (arith, nat_tests, e) }
     go rest false e =
         let c = sum_by-cons (at_job j) x.job (jobs_in rows) in
         let o : at_job j x.job ≡ 0 = ap (λ (b : Bool). cond b 1 0) e in
-        let w = rest (omega arith) in (suc w.0, w.1, w.2, w.3)
+        let w = rest (omega arith) in record { place = suc w.place; row = w.row; is = w.is; of_job = w.of_job }
 
 pub rows_of-append : (j : ℕ) (xs ys : List ReportRow) → how_many_of_job j (xs ++ ys) ≡ how_many_of_job j xs + how_many_of_job j ys
 rows_of-append j xs ys = ap (times j) (map-append (λ (r : ReportRow). r.job) xs ys) ∙ sum_by-append (at_job j) (jobs_in xs) (jobs_in ys)

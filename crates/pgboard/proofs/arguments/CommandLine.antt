@@ -44,17 +44,19 @@ module _ (f : Found) (name : Text) (result : Option ℕ) (none : one_text f name
       go None e = let bad : None ≡ Some n = sym (none e) ∙ is in absurd (cc bad)
       go (Some t) e =
           let read = subst (ReadsNumber t) is (value t e) in
-          (t, sym (one_text-rows f name) ∙ e, read.0.0.0, read.0.1)
+          record { text = t; given = sym (one_text-rows f name) ∙ e; digits = read.0.0.0; value = read.0.1 }
 
   pub number_given : (n : ℕ) → IsNumber name (rows_of f) n → n < 2 ^ 32 → result ≡ Some n
   number_given n is fits = go result refl
     where
-      reads : ReadsNumber is.0 result
-      reads = value is.0 (one_text-rows f name ∙ is.1)
+      reads : ReadsNumber is.text result
+      reads = value is.text (one_text-rows f name ∙ is.given)
 
       go : (o : Option ℕ) → result ≡ o → result ≡ Some n
-      go None e = let read = subst (ReadsNumber is.0) e reads in absurd (read.1.0 (is.2, subst (λ (k : ℕ). k < 2 ^ 32) is.3 fits))
-      go (Some m) e = let read = subst (ReadsNumber is.0) e reads in e ∙ ap (λ (k : ℕ). Some k) (read.0.1 ∙ sym is.3)
+      go None e =
+          let read = subst (ReadsNumber is.text) e reads in
+          absurd (read.1.0 (is.digits, subst (λ (k : ℕ). k < 2 ^ 32) is.value fits))
+      go (Some m) e = let read = subst (ReadsNumber is.text) e reads in e ∙ ap (λ (k : ℕ). Some k) (read.0.1 ∙ sym is.value)
 
 pub flag_read : (f : Found) (name : Text) (result : Bool) → (one_text f name ≡ Some (codes "true") → result ≡ true)
     → (one_text f name ≡ Some (codes "false") → result ≡ false) → IsFlag name (rows_of f) result
@@ -84,18 +86,25 @@ some_path f name path is path_is = go path path_is
 other_name : {A : Type 0} (x y : ℕ) (xs ys : List ℕ) → x ∷ xs ≡ y ∷ ys → (x ≡ y → ⊥) → A
 other_name x y xs ys e differ = absurd (differ (ap (λ (l : List ℕ). slice_index l 0) e))
 
+-- a number within a range was given under a name
+pub record HasNumber (name : Text) (rows : List Row) (least most : ℕ) : Type 0 where
+  pub number : ℕ
+  pub given : IsNumber name rows number
+  pub low : least ≤ number
+  pub high : number ≤ most
+
 pub record IsSolving (rows : List Row) : Type 0 where
-  pub workers : (n : ℕ) × IsNumber (codes "workers") rows n × (1 ≤ n) × (n ≤ 64)
-  pub bound : (n : ℕ) × IsNumber (codes "bound") rows n × (0 ≤ n) × (n ≤ 8)
+  pub workers : HasNumber (codes "workers") rows 1 64
+  pub bound : HasNumber (codes "bound") rows 0 8
   pub known : (path : Option Text) × IsPath (codes "known") rows path
   pub game : (path : Option Text) × IsPath (codes "GAME") rows path
 
 pub solving : (rows : List Row) (asked : Asked) → IsRead (Some (codes "solve", rows)) asked → IsInRange asked → IsSolving rows
 solving rows (Solve w b f k g) is range = record {
-  workers = (w, is.1, range.0, range.1);
-  bound = (b, is.2, omega arith, range.2);
-  known = (_, is.4);
-  game = (_, is.5);
+  workers = record { number = w; given = is.1.workers_are; low = range.0; high = range.1 };
+  bound = record { number = b; given = is.1.bound_is; low = omega arith; high = range.2 };
+  known = (_, is.1.known_is);
+  game = (_, is.1.game_is);
 }
 solving rows (Verify g s) is range = other_name 115 118 _ _ is.0 (λ e. omega (arith, e))
 solving rows (Tidy g) is range = other_name 115 116 _ _ is.0 (λ e. omega (arith, e))
@@ -104,8 +113,8 @@ solving rows Joined is range = absurd is
 solving rows (Help t) is range = absurd is
 
 pub tracing : (rows : List Row) (asked : Asked) → IsRead (Some (codes "trace", rows)) asked → IsInRange asked
-    → (n : ℕ) × IsNumber (codes "workers") rows n × (1 ≤ n) × (n ≤ 64)
-tracing rows (Trace w g) is range = (w, is.1, range.0, range.1)
+    → HasNumber (codes "workers") rows 1 64
+tracing rows (Trace w g) is range = record { number = w; given = is.1; low = range.0; high = range.1 }
 tracing rows (Verify g s) is range = other_name 116 118 _ _ is.0 (λ e. omega (arith, e))
 tracing rows (Tidy g) is range = other_name 114 105 _ _ (ap (λ (l : List ℕ). drop 1 l) is.0) (λ e. omega (arith, e))
 tracing rows (Solve w b f k g) is range = other_name 116 115 _ _ is.0 (λ e. omega (arith, e))

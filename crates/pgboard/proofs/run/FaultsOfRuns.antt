@@ -9,7 +9,10 @@ pub writes_err : {A B : Type 0} {P : A → List ℕ → Type 0} {Q : B → List 
     → ((a : A) (text : List ℕ) → P a text → (b : B) × Q b text) → Writes P (Err e) old new failures later → Writes Q (Err e) old new failures later
 writes_err {e} of w = record {
   written = tt;
-  cut = λ is. let cut = w.cut (err_again e fault.Write is) in let output = of cut.0 cut.1 cut.2 in (output.0, cut.1, output.1, cut.3);
+  cut =
+      λ is. let cut = w.cut (err_again e fault.Write is) in
+      let output = of cut.answer cut.text cut.output in
+      record { answer = output.0; text = cut.text; output = output.1; prefix = cut.prefix };
   nothing = w.nothing;
   no_failure = λ none. w.no_failure (λ is. none (err_again e fault.Write is));
   failed = λ is. w.failed (err_again e fault.Write is);

@@ -2,7 +2,8 @@
 use Rattle.pgboard.proofs.Common.{fun_ext, ◌≡◌, ℕ, zero, suc, ◌<◌, ◌≤◌, false, true, ◌⊎◌, inl, inr, [], ◌∷◌, length, refl, sym, subst, arith, Some, None, Even}
 use Rattle.pgboard.proofs.Common.{replicate, slice_get, cases_lt, cases_Bool, Player, Odd, Graph, IsGame, VertexSet, all_vertices, Attractor, IsRegion, Refusal}
 use Rattle.pgboard.proofs.Common.{Contains-head, KnownRows, known_at, known_of, known_choice, own_choices, rows_below, known_rows, IsKnownRegion, HasCount}
-use Rattle.pgboard.proofs.Common.{IsAttractedToKnown, IsKnownSize, IsSolveFault, RunFault}
+use Rattle.pgboard.proofs.Common.{List, Contains, IsAttractedToKnown, IsKnownSize, IsSolveFault, RunFault}
+use Rattle.std.proofs.Common.{◌↔◌}
 use Rattle.pg_board.proofs.OpeningState.{no_region, attracts_none}
 use Rattle.pg_workers.proofs.KnownSets.{unknown_beyond}
 use Rattle.pg_workers.specs.declared.known.SolveFault.TheVariants as solving
@@ -42,8 +43,11 @@ nothing_at (suc n) zero = refl
 nothing_at (suc n) (suc v) = nothing_at n v
 
 no_size : (P : ℕ → Type 0) (n : ℕ) → ((v : ℕ) → P v → ⊥) → HasCount P n → n ≡ 0
-no_size P n none ([], distinct, listed, size) = sym size
-no_size P n none (v ∷ vs, distinct, listed, size) = absurd (none v ((listed v).0 (Contains-head v vs)))
+no_size P n none count = go count.numbers count.all count.size
+  where
+    go : (vs : List ℕ) → ((v : ℕ) → Contains vs v ↔ P v) → length vs ≡ n → n ≡ 0
+    go [] all size = sym size
+    go (v ∷ vs) all size = absurd (none v ((all v).0 (Contains-head v vs)))
 
 -- rows that say nothing are regions, as no rows are
 pub nothing_regions : (g : Graph) → IsGame g → (p : Player) → IsKnownRegion g (replicate (length g) None) p
@@ -54,7 +58,7 @@ module _ (g : Graph) (game : IsGame g) (known : KnownRows) (nothing : known ≡ 
   not_known p v = rw nothing refl
 
   pub never_refused : (p : Player) (e : Refusal) → IsSolveFault g known (solving.Known p e) → ⊥
-  never_refused p e (journal, lawful, before, why) = why.no_region (empty_region g game known p (not_known p))
+  never_refused p e post = post.refused.no_region (empty_region g game known p (not_known p))
 
   -- only refused memory keeps such a game from being solved
   pub only_memory : (e : RunFault) → IsUnsolved g known e → e ≡ fault.Memory
@@ -70,6 +74,6 @@ module _ (g : Graph) (game : IsGame g) (known : KnownRows) (nothing : known ≡ 
   attracts_nothing p n size = no_size (IsAttractedToKnown g known p) n (none_attracted g game known p (not_known p)) size
 
   pub settles_nothing : (n : ℕ) → IsKnownSize g known n → n ≡ 0
-  settles_nothing n (a, b, even, odd, is) =
-      let none_of_even = attracts_nothing Even a even in
-      let none_of_odd = attracts_nothing Odd b odd in omega arith
+  settles_nothing n known_size =
+      let none_of_even = attracts_nothing Even known_size.of_even known_size.even in
+      let none_of_odd = attracts_nothing Odd known_size.of_odd known_size.odd in omega arith

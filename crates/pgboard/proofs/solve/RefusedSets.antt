@@ -50,16 +50,17 @@ module _ (g : Graph) (game : IsGame g) (known : KnownRows) (sized : length known
   RefusedFor e = IsSolveFault g known (solving.Known p e)
 
   pub row_inside : (i : ℕ) → RefusedFor (refusal.Claim (Shape i)) → i < length rows_of
-  row_inside i (journal, lawful, before, why) = elim why.refused.0 [
-    | inl none ↦ absurd (why.no_region (empty_region g game known p (none_of_rows g known p sized none.0)))
+  row_inside i post = elim post.refused.refused.0 [
+    | inl none ↦ absurd (post.refused.no_region (empty_region g game known p (none_of_rows g known p sized none.0)))
     | inr first ↦ first.0
   ]
 
   pub cycle_inside : (v : ℕ) → RefusedFor (refusal.Claim (Cycle v)) → v < length g
-  cycle_inside v (journal, lawful, before, why) = cycle_below g game p rows_of v why.refused.0
+  cycle_inside v post = cycle_below g game p rows_of v post.refused.refused.0
 
   pub lost_inside : (v : ℕ) → RefusedFor (refusal.Lost v) → v < length g
-  lost_inside v (journal, lawful, before, why) = named_below g game p rows_of why.refused.0.shape v why.refused.1.has.0
+  lost_inside v post = let why = post.refused.refused in named_below g game p rows_of why.0.shape v why.1.has.0
 
   pub open_inside : (v w : ℕ) → RefusedFor (refusal.Open v w) → (v < length g) × (w < length g)
-  open_inside v w (journal, lawful, before, why) = open_below g game p rows_of why.refused.0.shape (state_of journal) v w why.refused.2.edge.0
+  open_inside v w post =
+      let why = post.refused.refused in open_below g game p rows_of why.0.shape (state_of post.journal) v w why.2.edge.0

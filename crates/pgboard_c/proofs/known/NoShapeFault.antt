@@ -72,8 +72,8 @@ module _ (g : Graph) (known : KnownRows) (sized : length known ≤ length g) (ch
   no_rows e = subst (λ (X : VertexSet). IsRegion g p X (known_choice known)) (sym (fun_ext (none_known e))) (no_region g p (known_choice known))
 
   pub has_shape : (i : ℕ) → IsSolveFault g known (solving.Known p (refusal.Claim (Shape i))) → ⊥
-  has_shape i (journal, lawful, before, why) = elim why.refused.0 [
-    | inl none ↦ why.no_region (no_rows none.0)
+  has_shape i post = elim post.refused.refused.0 [
+    | inl none ↦ post.refused.no_region (no_rows none.0)
     | inr first ↦ first.2 (AreRight-front g p (take (i + 1) rows) (drop (i + 1) rows)
         (subst (λ (xs : ClaimRows). AreRight g p xs) (sym (take-append-drop (i + 1) rows)) rows_right))
   ]

@@ -2,6 +2,7 @@
 ghost use Rattle.std.specs.Prelude.{None};
 
 use super::asserting::made;
+use pg_test_support::check_eq;
 use pgboard::{Failed, RunFault, Source, read_text};
 use std::alloc::Global;
 use std::process::Abort;

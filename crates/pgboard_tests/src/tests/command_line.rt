@@ -1,5 +1,6 @@
 //! What lines of words ask for, and which are refused. The whole texts of refusals and of help are cases of the built program.
 use super::asserting::made;
+use pg_test_support::{check, check_eq};
 use pgboard::{Asked, AskedFault, asked};
 use std::alloc::{AllocError, Global};
 use std::process::Abort;

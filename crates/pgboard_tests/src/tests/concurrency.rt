@@ -3,6 +3,7 @@ use super::asserting::made;
 use super::calls::answered_on;
 use super::devices::Bounded;
 use pg_finders::Standard;
+use pg_test_support::{check, check_eq};
 use pg_workers::Gate;
 use std::alloc::Global;
 use std::process::Abort;

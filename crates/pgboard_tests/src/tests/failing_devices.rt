@@ -3,6 +3,7 @@ use super::asserting::made;
 use super::calls::{answered, outcome};
 use super::devices::{Bounded, Pieces};
 use pg_finders::Standard;
+use pg_test_support::check_eq;
 use pg_workers::Pass;
 use pgboard::RunFault;
 use std::alloc::Global;

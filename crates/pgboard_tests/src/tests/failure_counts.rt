@@ -2,6 +2,7 @@
 ghost use Rattle.std.specs.Prelude.{◌≡◌};
 ghost use Rattle.pgboard.specs.Device.{last_count};
 
+use pg_test_support::check_eq;
 use pgboard::{Failed, RunFault, Sink, Source, Std, run_tidy};
 use std::io;
 use std::io::{Error, ErrorKind, Read, Write};

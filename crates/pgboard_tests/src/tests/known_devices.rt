@@ -7,6 +7,7 @@ ghost use Rattle.pgboard.specs.Joined.{IsJudged, verdict_line};
 
 use super::asserting::made;
 use pg_finders::Standard;
+use pg_test_support::{check, check_eq};
 use pg_workers::Pass;
 use pgboard::{Asked, RunFault, Std, Verdict, asked, run_asked, run_verify};
 use std::alloc::Global;

@@ -4,6 +4,7 @@ use super::calls::answered_on;
 use super::devices::Bounded;
 use super::finders::{FirstSolution, Misshapen, NoMemory, Recorder, Singles, Wholes};
 use pg_finders::{Finder, Standard};
+use pg_test_support::check_eq;
 use pg_workers::Pass;
 use std::alloc::Global;
 use std::process::Abort;

@@ -10,7 +10,6 @@ returns-in_err-add_line c = search (
   passed_on,
   c.args.game.now,
   c.args.lines.now,
-  c.in_err-add_line.field-0.0,
   c.lines.invariant,
   c.lines.line-index,
   c.lines-test.true,

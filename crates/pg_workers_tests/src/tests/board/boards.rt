@@ -9,7 +9,7 @@ use pg_board::{Board, Entry, Posted, Refusal};
 use pg_dominion::ClaimFault;
 use pg_finders::Copied;
 use pg_game::{Mask, Player};
-use pg_test_support::{EVEN, ODD, Row, Vertex};
+use pg_test_support::{EVEN, ODD, Row, Vertex, check_eq};
 use pg_text::Solution;
 use std::alloc::Global;
 use std::process::Abort;

@@ -9,7 +9,7 @@ use pg_board::{Board, Refusal};
 use pg_dominion::Claim;
 use pg_finders::{Copied, Finder, Found, Job, Solved, Standard, zielonka};
 use pg_game::{Game, Player};
-use pg_test_support::{EVEN, ODD, Row, Vertex};
+use pg_test_support::{EVEN, ODD, Row, Vertex, check, check_eq};
 use std::alloc::Global;
 use std::process::Abort;
 

@@ -13,7 +13,7 @@ use crate::tests::board::games::{SHARED, WIDE, claim_of, game_made, new_board};
 use crate::tests::board::offices::{RUNS, run_through};
 use pg_board::{Board, Refusal, Session};
 use pg_game::Game;
-use pg_test_support::Vertex;
+use pg_test_support::{Vertex, check, check_eq};
 use std::alloc::Global;
 use std::marker::Brand;
 use std::process::Abort;

@@ -9,7 +9,7 @@ use crate::tests::board::games::{DIVIDED, LAYERED, SHARED, claim_of, game_made, 
 use pg_board::{Board, Office, Refusal, Share};
 use pg_finders::Copied;
 use pg_game::{Game, Memory, Player};
-use pg_test_support::{EVEN, ODD, Row, Vertex, lacking};
+use pg_test_support::{EVEN, ODD, Row, Vertex, check, check_eq, lacking};
 use std::alloc::Global;
 use std::process::Abort;
 use std::sync::Wait;

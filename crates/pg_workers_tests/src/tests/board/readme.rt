@@ -4,7 +4,7 @@ use crate::tests::board::games::{SHARED, game_made};
 use pg_board::{Board, Refusal};
 use pg_dominion::Claim;
 use pg_game::{Game, Player, Sequence};
-use pg_test_support::{EVEN, Vertex};
+use pg_test_support::{EVEN, Vertex, check_eq};
 use pg_text::Solution;
 use std::alloc::Global;
 use std::process::Abort;

@@ -5,7 +5,7 @@ use crate::tests::board::games::{DIVIDED, LAYERED, claim_of, game_made, new_boar
 use pg_board::{Posted, Refusal};
 use pg_dominion::{Checked, Claim, check_claim};
 use pg_game::Game;
-use pg_test_support::{EVEN, ODD, Row, Vertex};
+use pg_test_support::{EVEN, ODD, Row, Vertex, check_eq};
 use std::alloc::Global;
 use std::process::Abort;
 

@@ -5,7 +5,7 @@ use crate::tests::board::games::plain_game;
 use pg_board::{Entry, Session};
 use pg_dominion::Claim;
 use pg_game::{Player, Sequence};
-use pg_test_support::{EVEN, ODD, Plain, Random, Row, bit, has, size_of};
+use pg_test_support::{EVEN, ODD, Plain, Random, Row, bit, check, check_eq, has, size_of};
 use std::alloc::Global;
 use std::process::Abort;
 

@@ -2,6 +2,7 @@
 
 ghost use Rattle.std.specs.Prelude.{◌≡◌, All, false, true, vec_len};
 
+use pg_test_support::{check, check_eq};
 use pg_workers::{Drawn, Jobs, Ticket};
 use std::alloc::Global;
 use std::process::Abort;

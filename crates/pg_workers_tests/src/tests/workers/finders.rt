@@ -3,7 +3,7 @@
 use pg_dominion::Claim;
 use pg_finders::{Copied, Finder, Found, Job, Standard};
 use pg_game::{Game, Memory, Player, Sequence};
-use pg_test_support::{EVEN, ODD, Row};
+use pg_test_support::{EVEN, ODD, Row, check_eq};
 use std::alloc::Global;
 use std::process::Abort;
 use std::sync::OnceLock;

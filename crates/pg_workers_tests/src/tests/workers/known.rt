@@ -5,7 +5,7 @@ use pg_board::{Entry, Refusal};
 use pg_dominion::ClaimFault;
 use pg_finders::Standard;
 use pg_game::Player;
-use pg_test_support::{EVEN, ODD};
+use pg_test_support::{EVEN, ODD, check_eq};
 use pg_workers::{Outcome, ReportRow, SolveFault};
 use std::alloc::Global;
 use std::process::Abort;

@@ -11,7 +11,7 @@ use crate::tests::workers::finders::answer;
 use crate::tests::workers::games::{TWO_LOOPS, product, solved, try_solved};
 use pg_finders::{Copied, Finder, Found, Job, Standard};
 use pg_game::{Game, Memory, Player};
-use pg_test_support::{EVEN, ODD, needed};
+use pg_test_support::{EVEN, ODD, check_eq, needed};
 use pg_text::read_game;
 use pg_workers::{Jobs, Outcome, Pass, SolveFault, Ticket};
 use std::alloc::Global;

@@ -4,7 +4,7 @@ ghost use Rattle.std.specs.Prelude.{◌≤◌};
 ghost use Rattle.pg_game.specs.Specification.{max_vertices};
 
 use pg_finders::Job;
-use pg_test_support::{EVEN, ODD};
+use pg_test_support::{EVEN, ODD, check_eq};
 use pg_workers::Options;
 use std::process::Abort;
 

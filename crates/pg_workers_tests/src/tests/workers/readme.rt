@@ -3,6 +3,7 @@
 use crate::tests::workers::games::{TWO_LOOPS, game_of};
 use pg_finders::Standard;
 use pg_game::{Game, Player};
+use pg_test_support::check_eq;
 use pg_text::read_known;
 use pg_workers::{Options, Outcome, Pass, solve_game};
 use std::alloc::Global;

@@ -4,7 +4,7 @@ use crate::tests::workers::finders::{Fixed, Halting};
 use crate::tests::workers::games::{outcome_of, solved, two_loops};
 use pg_finders::{Finder, Standard};
 use pg_game::Player;
-use pg_test_support::{EVEN, ODD, Row, own_loops};
+use pg_test_support::{EVEN, ODD, Row, check_eq, own_loops};
 use pg_workers::{Options, Pass, ReportRow};
 use std::alloc::Global;
 use std::process::Abort;

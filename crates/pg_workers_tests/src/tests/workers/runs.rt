@@ -5,7 +5,7 @@ use crate::tests::workers::games::{gated_outcome, solved, two_loops};
 use crate::tests::workers::gates::{Alternating, Holder, Seen};
 use pg_finders::{Copied, Finder, Found, Job, Standard};
 use pg_game::Memory;
-use pg_test_support::{EVEN, ODD, own_loops};
+use pg_test_support::{EVEN, ODD, check, check_eq, own_loops};
 use pg_workers::{Gate, Options, Pass};
 use std::alloc::Global;
 use std::process::Abort;

@@ -5,6 +5,7 @@ use crate::tests::workers::games::{continents, gated_outcome, two_loops};
 use crate::tests::workers::gates::Turns;
 use pg_board::Entry;
 use pg_finders::{Finder, Standard};
+use pg_test_support::{check, check_eq};
 use pg_workers::{Outcome, ReportRow};
 use std::alloc::Global;
 use std::process::Abort;

@@ -4,7 +4,7 @@ use crate::tests::workers::finders::answer;
 use crate::tests::workers::games::run_on;
 use pg_finders::{Copied, Finder, Found, Job};
 use pg_game::Memory;
-use pg_test_support::own_loops;
+use pg_test_support::{check_eq, own_loops};
 use pg_workers::Pass;
 use std::alloc::Global;
 use std::sync::OnceLock;

@@ -8,6 +8,7 @@ use pg_board::{Board, Office, Share};
 use pg_dominion::Claim;
 use pg_finders::{Finder, Job};
 use pg_game::Game;
+use pg_test_support::check_eq;
 use std::alloc::Global;
 use std::marker::Brand;
 use std::process::Abort;

@@ -1,5 +1,4 @@
 use Rattle.std.proofs.Common.{rules, ◌≡◌, ◌∙◌, ap, true, codes}
-use Rattle.std.proofs.lemmas.Result.{IfOk-weaker}
 use Rattle.clap.specs.Words.{App, app_of, new_app, with_subcommand}
 use Rattle.clap.specs.Simple.{on_top}
 use Rattle.pgboard.specs.Line.{solve_command, trace_command, verify_command, tidy_command}
@@ -14,5 +13,4 @@ returns c =
     let solve = c.in_ok-with_solve.ensures solve_command c.solve_command.ensures ∙ ap (λ (a : App). with_subcommand a solve_command) alone_is in
     let trace = c.in_ok-with_trace.ensures trace_command c.trace_command.ensures ∙ ap (λ (a : App). with_subcommand a trace_command) solve in
     let verify = c.in_ok-with_verify.ensures verify_command c.verify_command.ensures ∙ ap (λ (a : App). with_subcommand a verify_command) trace in
-    IfOk-weaker c.with-4.result _ _ (λ command is. is ∙ ap (λ (a : App). with_subcommand a tidy_command) verify)
-    (c.with-4.ensures tidy_command c.tidy_command.ensures)
+    c.in_ok-with_tidy.ensures tidy_command c.tidy_command.ensures ∙ ap (λ (a : App). with_subcommand a tidy_command) verify

@@ -38,7 +38,12 @@ returns-in_err-write_all-in-Help-clause-writes g c =
     let only = p.2 ∙ written.only in
     rw (c.in-Help.is, p.1) record {
       written = tt;
-      cut = λ is. (0, c.as_bytes.result.now, (refl, search (rules, c.as_bytes.ensures.value, c.as_str.ensures.value)), written.cut);
+      cut = λ is. record {
+        answer = 0;
+        text = c.as_bytes.result.now;
+        output = (refl, search (rules, c.as_bytes.ensures.value, c.as_str.ensures.value));
+        prefix = written.cut;
+      };
       nothing = λ other. absurd (other only);
       no_failure = λ none. absurd (none (ap (λ (e : RunFault). Err e) only));
       failed = λ is. written.failed;

@@ -1,4 +1,4 @@
-use Rattle.pgboard_c.proofs.Common.{◌≡◌, length, ap, arith, subst, Graph, IsExactSolution, no_choice}
+use Rattle.pgboard_c.proofs.Common.{◌≡◌, length, ap, arith, rules, subst, Graph, IsExactSolution, no_choice}
 use Rattle.pgboard_c.proofs.arrays.ChoiceNumbers.{choices_below}
 use Rattle.pgboard_c.proofs.on_arrays.solve_known.Goals as goal
 
@@ -12,4 +12,4 @@ invariant_of-of_game c =
 pub write_results-requires-clause-below : goal.write_results-requires-clause-below
 write_results-requires-clause-below c =
     let exact = subst (λ (g : Graph). IsExactSolution g c.in_ok-solution.solution.rows) c.in_ok-game.ensures c.in_ok-solution.ensures.exact in
-    choices_below _ _ no_choice c.in_ok-forward.ensures.game.1 exact c.in_ok-check_lengths-2.ensures.few
+    choices_below _ _ no_choice c.in_ok-forward.ensures.game.1 exact (search rules)

@@ -30,7 +30,7 @@ rows-preserved c =
     let old = c.rows.invariant in
     let h = c.write_row.ensures in
     let unsettled = row_open c.rows.self c.args.self.now rows i c.rows-test.true old.same c.requires.unsettled c.requires.distinct in
-    let settles : Settles c.rows.self c.write_row.new.self p r = record { size = h.size; table = h.table; mask = h.mask; passed = h.passed } in
+    let settles : Settles c.rows.self c.write_row.new.self p r = record { size = h.size; table = h.table; mask = h.mask; cursors = h.cursors } in
     let taken : Takes g p c.rows.self c.write_row.new.self front r (length g) = record { settles = settles; unsettled = unsettled; growing = old.growing } in
     let more : take (i + 1) rows ≡ front ++ r ∷ [] = take_more rows i (0, None) c.rows-test.true in
     record {

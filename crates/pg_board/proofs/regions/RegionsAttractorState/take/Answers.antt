@@ -6,7 +6,7 @@ use Rattle.pg_board.proofs.regions.RegionsAttractorState.take.Goals as goal
 
 taken : (c : After-write_row)
     → Takes c.args._game.now c.args.player c.args.self.now c.write_row.new.self c.args.list.now.items (c.args.v, c.args.choice) (vec_capacity c.args.list.now)
-taken c = search (rules, c.write_row.ensures.passed, c.requires.free, c.requires.ready)
+taken c = search (rules, c.write_row.ensures.cursors, c.requires.free, c.requires.ready)
 
 pub returns-clause-ready : goal.returns-clause-ready
 returns-clause-ready c =

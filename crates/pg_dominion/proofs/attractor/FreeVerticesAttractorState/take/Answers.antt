@@ -27,10 +27,9 @@ returns-clause-ready c =
     let l = member_below mask v c.requires.free in
     rw (c.remove.ensures, c.in_ok-push.ensures.items) (record {
       size = length-set mask v false ∙ old.size;
-      passed_size = old.passed_size;
+      cursors_size = old.cursors_size;
       apart = λ w i. elim (or_cases (named rows w) (v == w) (sym (named-push rows (v, c.args.choice) w) ∙ i)) [
         | inl n ↦ taken_out mask v w l (old.apart w n)
         | inr e ↦ rw (read_set mask v w false false l, e) refl
       ];
-      passes = λ u b. record { within = (old.passes u b).within; gone = λ k m. taken_out mask v _ l ((old.passes u b).gone k m) };
     })

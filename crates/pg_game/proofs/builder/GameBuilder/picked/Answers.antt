@@ -9,16 +9,16 @@ row-row-requires c =
     let l = place_within c.self.invariant c.self.view_is _ (c.requires c.lines.line-index (0, 0) c.lines-test.true) in
     omega (arith, l, c.self.invariant.successors)
 
-pub index-requires : goal.index-requires
-index-requires c = search (rules, place_within, c.self.invariant, c.self.view_is, c.requires, c.lines.line-index, c.lines-test.true, c.self.inside.ids.ok.0)
+pub index-id-requires : goal.index-id-requires
+index-id-requires c = search (rules, place_within, c.self.invariant, c.self.view_is, c.requires, c.lines.line-index, c.lines-test.true, c.self.inside.ids.ok.0)
 
-pub index-requires-in-lines : goal.index-requires-in-lines
-index-requires-in-lines c =
+pub index-priority-requires : goal.index-priority-requires
+index-priority-requires c =
     let l = place_within c.self.invariant c.self.view_is _ (c.requires c.lines.line-index (0, 0) c.lines-test.true) in
     omega (arith, l, c.self.invariant.priorities, c.self.inside.priorities.ok.0)
 
-pub index-requires-in-lines-2 : goal.index-requires-in-lines-2
-index-requires-in-lines-2 c =
+pub index-owner-requires : goal.index-owner-requires
+index-owner-requires c =
     let l = place_within c.self.invariant c.self.view_is _ (c.requires c.lines.line-index (0, 0) c.lines-test.true) in
     omega (arith, l, c.self.invariant.owners, c.self.inside.owners.ok.0)
 
@@ -31,11 +31,11 @@ lines-preserved c = λ d.
     let v = (get_or lines k (0, 0)).1 in
     let within : v < length s.ids.items = place_within parts c.self.view_is v (c.requires k (0, 0) c.lines-test.true) in
     let f = λ (line : ℕ × ℕ). get_or (specs_from s.ids.items s.priorities.items s.owners.items s.rows) line.1 d in
-    let id : c.index.result.now ≡ get_or s.ids.items v 0 = get_or_read s.ids.items v _ within c.index.ensures 0 in
-    let priority : c.index-in-lines.result.now ≡ get_or s.priorities.items v 0 =
-    get_or_read s.priorities.items v _ (omega (arith, within, parts.priorities)) c.index-in-lines.ensures 0 in
-    let owner : c.index-in-lines-2.result.now ≡ get_or s.owners.items v Even =
-    get_or_read s.owners.items v _ (omega (arith, within, parts.owners)) c.index-in-lines-2.ensures Even in
+    let id : c.index-id.result.now ≡ get_or s.ids.items v 0 = get_or_read s.ids.items v _ within c.index-id.ensures 0 in
+    let priority : c.index-priority.result.now ≡ get_or s.priorities.items v 0 =
+    get_or_read s.priorities.items v _ (omega (arith, within, parts.priorities)) c.index-priority.ensures 0 in
+    let owner : c.index-owner.result.now ≡ get_or s.owners.items v Even =
+    get_or_read s.owners.items v _ (omega (arith, within, parts.owners)) c.index-owner.ensures Even in
     let row : c.row-row.result.now ≡ get_or s.rows v [] = c.row-row.ensures.row in
     let spec = (λ i. spec_of (id i) (priority i) (owner i) (row i)) ∙ sym (spec_at parts v d within) in
     let more = ap (λ (ls : List (ℕ × ℕ)). map f ls) (take_more lines k (0, 0) c.lines-test.true) ∙ map_push f (take k lines) (get_or lines k (0, 0)) in

@@ -12,11 +12,5 @@ returns-clause-pushed c = search (
   c.args.successors.now,
   c.self.invariant,
   c.self.view_is,
-  c.push_reserved.ensures.items,
-  c.push_reserved-2.ensures.items,
-  c.push_reserved-3.ensures.items,
   c.in_ok-push.ensures.pushed,
-  c.in_ok-reserve.ensures.items,
-  c.in_ok-reserve-2.ensures.items,
-  c.in_ok-reserve-3.ensures.items,
 )

@@ -1,4 +1,7 @@
-use Rattle.pg_game.proofs.Common.{◌≡◌, ◌++◌, ◌∷◌, [], length, drop, ap, ◌∙◌, arith, ℕ, ◌+◌, List, take, sym, length-append, take-length, rows_of, IsCompressed}
+use Rattle.pg_game.proofs.Common.{rules, ◌≡◌, ◌++◌, ◌∷◌, [], length, drop, ap, ◌∙◌, arith, ℕ, ◌+◌, List, take, sym, length-append, take-length, rows_of, IsCompressed}
+use Rattle.pg_game.proofs.Common.{Player, specs_from}
+use Rattle.pg_game.specs.private.Opened.{IsOpened}
+use Rattle.pg_game.proofs.SpecificationLists.{spec_of}
 use Rattle.pg_game.proofs.builder.PushedParts.{specs_more, parts_more}
 use Rattle.std.proofs.lemmas.List.{take-append-drop}
 use Rattle.pg_game.specs.Opened.{whole_rows}
@@ -21,31 +24,20 @@ module _ (offsets targets : List ℕ) (closed : ℕ) (c : IsCompressed offsets (
   compressed_closed : IsCompressed (offsets ++ length targets ∷ []) (take (length targets) targets)
   compressed_closed = rw (all_are targets closed) (IsCompressed-push (drop closed targets) (length targets) c (size_is targets closed))
 
+module _ {ids ps : List ℕ} {os : List Player} {offsets targets : List ℕ} {closed : ℕ} (c : IsOpened ids ps os offsets closed targets) (i p : ℕ) (o : Player) where
+  is_closed : IsOpened (ids ++ i ∷ []) (ps ++ p ∷ []) (os ++ o ∷ []) (offsets ++ length targets ∷ []) (length targets) targets
+  is_closed = record {
+    compressed = compressed_closed offsets targets closed c.compressed;
+    within = omega arith;
+    parts = rw (rows_closed offsets targets closed c.compressed) (parts_more c.parts i p o (drop closed targets));
+  }
+
+  specs_closed : specs_from (ids ++ i ∷ []) (ps ++ p ∷ []) (os ++ o ∷ []) (whole_rows (offsets ++ length targets ∷ []) (length targets) targets)
+      ≡ specs_from ids ps os (whole_rows offsets closed targets) ++ spec_of i p o (drop closed targets) ∷ []
+  specs_closed = rw (rows_closed offsets targets closed c.compressed) (specs_more c.parts i p o (drop closed targets))
+
 pub invariant_of-self-2 : goal.invariant_of-self-2
-invariant_of-self-2 c =
-    let ts = c.self.inside.targets.items in
-    let row = drop c.self.inside.closed ts in
-    let end : c.len-end.result ≡ length ts = omega arith in
-    rw (c.push_reserved.ensures.items, c.push_reserved-2.ensures.items, c.push_reserved-3.ensures.items, c.push_reserved-4.ensures.items)
-    (rw (c.in_ok-reserve.ensures.items, c.in_ok-reserve-2.ensures.items, c.in_ok-reserve-3.ensures.items, c.in_ok-reserve-4.ensures.items, end) record {
-      compressed = compressed_closed _ ts c.self.inside.closed c.self.invariant.compressed;
-      within = omega arith;
-      parts = rw (rows_closed _ ts c.self.inside.closed c.self.invariant.compressed)
-          (parts_more c.self.invariant.parts c.args.id c.args.priority c.args.owner row);
-    })
+invariant_of-self-2 c = search (rules, is_closed, c.args.id, c.args.priority, c.args.owner, c.self.invariant, c.len-end.ensures)
 
 pub returns-clause-specs : goal.returns-clause-specs
-returns-clause-specs c =
-    let row = drop c.self.inside.closed c.self.inside.targets.items in
-    let end : c.len-end.result ≡ length c.self.inside.targets.items = omega arith in
-    let all = specs_more c.self.invariant.parts c.args.id c.args.priority c.args.owner row in
-    rw (c.push_reserved.ensures.items, c.push_reserved-2.ensures.items, c.push_reserved-3.ensures.items, c.push_reserved-4.ensures.items)
-    (rw (c.in_ok-reserve.ensures.items, c.in_ok-reserve-2.ensures.items, c.in_ok-reserve-3.ensures.items, c.in_ok-reserve-4.ensures.items, end)
-    (rw (rows_closed _ c.self.inside.targets.items c.self.inside.closed c.self.invariant.compressed)
-    (all ∙ ap (λ o. o.specs ++ record {
-      id =
-          c.args.id;
-      priority = c.args.priority;
-      owner = c.args.owner;
-      successors = o.successors;
-    } ∷ []) c.self.view_is)))
+returns-clause-specs c = search (rules, specs_closed, c.args.id, c.args.priority, c.args.owner, c.self.invariant, c.self.view_is, c.len-end.ensures)

@@ -47,5 +47,5 @@ reversed-requires c = search (
 
 pub invariant_of-result : goal.invariant_of-result
 invariant_of-result c =
-    subst (λ (g : Graph). HasPredecessors g c.in_ok-reversed.field-0) c.forward.view_is
-    (has_back c.forward.invariant c.in_ok-reversed.ensures.size c.in_ok-reversed.ensures.sources)
+    subst (λ (g : Graph). HasPredecessors g c.in_ok-predecessors.predecessors) c.forward.view_is
+    (has_back c.forward.invariant c.in_ok-predecessors.ensures.size c.in_ok-predecessors.ensures.sources)

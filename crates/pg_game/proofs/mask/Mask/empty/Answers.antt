@@ -3,17 +3,7 @@ use Rattle.pg_game.proofs.mask.Bits.{closed, fit-none, bits_of_none}
 use Rattle.pg_game.proofs.mask.Mask.empty.Goals as goal
 
 pub invariant_of-result : goal.invariant_of-result
-invariant_of-result c = search (
-  rules,
-  closed,
-  fit-none,
-  c.in_ok-vec.ensures.items_if_clones_equal,
-  c.in_ok-vec.field-0.items,
-  c.args.n,
-  c.div_ceil.result,
-  c.ranges.n.fits,
-  c.div_ceil.ensures,
-)
+invariant_of-result c = search (rules, closed, fit-none, c.in_ok-words.ensures.items_if_clones_equal, c.ranges.n.fits, c.div_ceil.ensures)
 
 pub returns : goal.returns
-returns c = bits_of_none c.in_ok-vec.field-0.items c.div_ceil.result c.args.n (c.in_ok-vec.ensures.items_if_clones_equal (λ _ e. e))
+returns c = bits_of_none c.in_ok-words.words.items c.div_ceil.result c.args.n (c.in_ok-words.ensures.items_if_clones_equal (λ _ e. e))

@@ -73,7 +73,7 @@ returns-clause-fair c =
     let total = ap (λ k. k.total) jobs.key ∙ ap (λ o. o.series.total) c.self.view_is in
     let found_none = ap (λ m. m.0.told_none) first ∙ ap (λ t. if t.told_none then 1 else 0) view in
     let numbers = ap (λ m. m.0.drawn) first ∙ ap (λ t. t.numbers) view in
-    let out = drawn_by_all _ known.0 at.seat.me.0.told_none at.seat.me.0.drawn (c.remove.result ∷ at.yielded) known.1 known.2 known.3
+    let out = drawn_by_all _ known.word at.seat.me.0.told_none at.seat.me.0.drawn (c.remove.result ∷ at.yielded) known.fair known.drawn known.steps
     (i.drawn ∙ ap (λ l. l ++ flat_map (λ (t : HeldTicket). t.numbers) at.yielded) numbers)
     (let b = i.told_none in let d = sum_by-cons (λ (t : HeldTicket). cond t.told_none 1 0) c.remove.result at.yielded in omega arith) in
     subst (λ (n : ℕ). AreDrawn n c.args.tickets.items) total

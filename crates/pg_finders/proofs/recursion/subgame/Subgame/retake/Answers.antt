@@ -8,14 +8,14 @@ returns-in-Some-clause-grown c = on_ok_weaker c.take.result (λ h. h _ _ _ grown
 pub returns-in-None-clause-grown : goal.returns-in-None-clause-grown
 returns-in-None-clause-grown c = grown_none
 
-pub returns-then-find_active-clause-grown : goal.returns-then-find_active-clause-grown
-returns-then-find_active-clause-grown c = grown_none
+pub returns-then-find_successor-clause-grown : goal.returns-then-find_successor-clause-grown
+returns-then-find_successor-clause-grown c = grown_none
 
 pub returns-clause-grown : goal.returns-clause-grown
 returns-clause-grown c = on_ok_weaker c.take-2.result (λ h. h _ _ _ grown_none) c.take-2.ensures.grown
 
-pub returns-then-find_active-clause-tested : goal.returns-then-find_active-clause-tested
-returns-then-find_active-clause-tested c =
+pub returns-then-find_successor-clause-tested : goal.returns-then-find_successor-clause-tested
+returns-then-find_successor-clause-tested c =
     let other : owner_of c.args.view.now.game.now c.args.v ≢ c.args.player = search rules in
-    let found = c.find_active.ensures.found c.if-find_active.true in
+    let found = c.find_successor.ensures.found c.if-find_successor.true in
     inr (inr (other, found.0, found.1, found.2))
