@@ -330,7 +330,7 @@ fn sorted(mut row: Vec<u32>) -> Vec<u32> {
 /// A game that is hard for priority promotion (Benerecetti, Dell'Erba and Mogavero, Solving Parity Games via Priority Promotion, 2016):
 /// for 4, 6, .. 14 levels it took 2^(levels - 2) + 1 promotions. With their later rule that a promotion resets regions of the other
 /// player alone (Improving Priority Promotion for Parity Games, 2016) it took the Fibonacci number of levels + 1. The recursion took
-/// twice the steps for each two levels. A search among small patterns found it; it is none of the authors' games. Each vertex is
+/// about twice the steps for each two levels. A search among small patterns found it; it is none of the authors' games. Each vertex is
 /// owned by the player for whom its priority is bad. A level has a low and a high priority. The low ones fall, and the high ones rise.
 fn promotions(levels: u32) -> Game {
     let (low, high) = (|level: u32| level, |level: u32| levels + level);
