@@ -13,6 +13,8 @@ const VERTICES: u32 = 65_536;
 const LEVELS: u32 = 4_096;
 /// How many vertices a game may have.
 const MOST_VERTICES: u32 = 1_048_576;
+/// How many vertices the sparse games with many priorities have.
+const SPARSE: [u32; 2] = [100_000, 1_000_000];
 
 /// Numbers from a fixed seed (splitmix64).
 struct Random(u64);
@@ -52,13 +54,62 @@ fn sparse(n: u32, degree: u32, priorities: u32, seed: u64) -> Game {
         .collect()
 }
 
-/// A hundred thousand vertices, each with one or two random successors and a random priority of 31 bits.
-fn one_or_two(seed: u64) -> Game {
+/// Each vertex with one or two random successors and a random priority of 31 bits.
+fn one_or_two(n: u32, seed: u64) -> Game {
     let random = &mut Random(seed);
-    (0..100_000)
+    (0..n)
         .map(|_| {
             let degree = 1 + random.below(2);
-            Vertex(random.below(1 << 31), random.below(2) == 1, random.different(degree, 100_000))
+            Vertex(random.below(1 << 31), random.below(2) == 1, random.different(degree, n))
+        })
+        .collect()
+}
+
+/// A vertex with these successors, and with a random owner and a random priority below a bound.
+fn any(random: &mut Random, priorities: u32, row: Vec<u32>) -> Vertex {
+    Vertex(random.below(priorities), random.below(2) == 1, sorted(row))
+}
+
+/// A ring on which each vertex leads to the nearest two on both sides, but one edge in ten leads anywhere (Watts and Strogatz 1998).
+fn small_world(n: u32) -> Game {
+    let random = &mut Random(28);
+    (0..n)
+        .map(|v| {
+            let mut to = |step: u32| if random.below(10) == 0 { random.below(n) } else { (v + step) % n };
+            let row = vec![to(n - 2), to(n - 1), to(1), to(2)];
+            any(random, n, row)
+        })
+        .collect()
+}
+
+/// A ring of clusters of 50 vertices. Each vertex has two random successors in its cluster, and one vertex in ten has one in the next.
+fn clusters(n: u32) -> Game {
+    let random = &mut Random(29);
+    (0..n)
+        .map(|v| {
+            let first = v - v % 50;
+            let mut row = vec![first + random.below(50), first + random.below(50)];
+            if random.below(10) == 0 {
+                row.push((first + 50 + random.below(50)) % n);
+            }
+            any(random, n, row)
+        })
+        .collect()
+}
+
+/// Each vertex has up to three random successors, which mostly are a little lower: many small parts are won one after another.
+fn layers(n: u32) -> Game {
+    let random = &mut Random(30);
+    (0..n)
+        .map(|v| {
+            let degree = 1 + random.below(3);
+            let mut near = |_| {
+                let (down, up) = ([1, 5, 15][random.below(3) as usize], [0, 1, 5][random.below(3) as usize]);
+                let (low, high) = (v.saturating_sub(down), (v + up).min(n - 1));
+                low + random.below(high - low + 1)
+            };
+            let row = (0..degree).map(&mut near).collect();
+            any(random, n, row)
         })
         .collect()
 }
@@ -258,6 +309,17 @@ fn sized(kind: &str, n: u32) -> Option<Game> {
     })
 }
 
+/// A sparse game with many priorities.
+fn sparse_kind(kind: &str, n: u32) -> Option<Game> {
+    Some(match kind {
+        "small_world" => small_world(n),
+        "clusters" => clusters(n),
+        "layers" => layers(n),
+        "recursive_ladder" => recursive_ladder(n / 5),
+        _ => one_or_two(n, kind.strip_prefix("one_or_two_")?.parse().ok()?),
+    })
+}
+
 /// One cycle through all vertices, with a chord from each that skips up to 63, and a priority for each.
 fn chords(n: u32) -> Game {
     let random = &mut Random(24);
@@ -298,7 +360,7 @@ fn tree_with_ways_back(n: u32) -> Game {
         .collect()
 }
 
-/// A game on which the recursion takes a time exponential in the levels (Friedmann 2011).
+/// A game on which a plain recursion takes a time exponential in the levels (Friedmann 2011).
 fn recursive_ladder(levels: u32) -> Game {
     let (a, b, c, d, e) = (0, levels, 2 * levels, 3 * levels, 4 * levels);
     let mut game = Game::new();
@@ -329,7 +391,7 @@ fn sorted(mut row: Vec<u32>) -> Vec<u32> {
 
 /// A game that is hard for priority promotion (Benerecetti, Dell'Erba and Mogavero, Solving Parity Games via Priority Promotion, 2016):
 /// for 4, 6, .. 14 levels it took 2^(levels - 2) + 1 promotions. With their later rule that a promotion resets regions of the other
-/// player alone (Improving Priority Promotion for Parity Games, 2016) it took the Fibonacci number of levels + 1. The recursion took
+/// player alone (Improving Priority Promotion for Parity Games, 2016) it took the Fibonacci number of levels + 1. A plain recursion took
 /// about twice the steps for each two levels. A search among small patterns found it; it is none of the authors' games. Each vertex is
 /// owned by the player for whom its priority is bad. A level has a low and a high priority. The low ones fall, and the high ones rise.
 fn promotions(levels: u32) -> Game {
@@ -515,13 +577,14 @@ fn around(out: &mut impl Write, before: &str, piece: &[u8], count: usize, after:
 fn game_of(name: &str) -> Option<Game> {
     let n = VERTICES;
     if let Some((kind, size)) = name.rsplit_once('_') {
-        let size = size.parse().ok().filter(|size| [VERTICES, MOST_VERTICES].contains(size));
-        if let Some(game) = size.and_then(|size| sized(kind, size)) {
-            return Some(game);
+        let game = match size.parse().unwrap_or(0) {
+            size if [VERTICES, MOST_VERTICES].contains(&size) => sized(kind, size),
+            size if SPARSE.contains(&size) => sparse_kind(kind, size),
+            _ => None,
+        };
+        if game.is_some() {
+            return game;
         }
-    }
-    if let Some(seed) = name.strip_prefix("one_or_two_") {
-        return seed.parse().ok().map(one_or_two);
     }
     Some(match name {
         "sparse_6" => sparse(n, 4, 6, 1),
@@ -546,10 +609,7 @@ fn game_of(name: &str) -> Option<Game> {
         "small_dominions" => small_dominions(n),
         "chords" => chords(n),
         "recursive_ladder" => recursive_ladder(40),
-        "recursive_ladder_10000" => recursive_ladder(2_000),
-        "recursive_ladder_100000" => recursive_ladder(20_000),
         "lifting_500_200" => lifting(500, 200),
-        "promotions" => promotions(60),
         "promotions_10000" => promotions(5_000),
         "simulation" => simulation(180),
         "hypercube" => hypercube(13),

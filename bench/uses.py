@@ -1,10 +1,6 @@
 #!/usr/bin/env python3
-"""Writes the games that the worked uses of examples/ make of a model and of a specification: `uses.py FOLDER
-NAME..`.
-
-A name is modelcheck_N or synthesise_N, of a game of about N vertices. Model and specification are random,
-from a fixed seed, and are the same in each run. Next to the game NAME.pg stands NAME.aut or NAME.hoa, of
-which it was made.
+"""Writes the games that the worked uses of examples/ make of a random model or specification:
+`uses.py FOLDER NAME..`. A name is modelcheck_N or synthesise_N, of a game of about N vertices.
 """
 
 import os

@@ -6,6 +6,7 @@ _pgboard() {
     fi
     help=$("$1" "${command[@]}" -h 2>/dev/null)
     case $last:$word in
+    --*[!a-z]*:*) ;;
     --*:*) words=$(seq $(sed -En "s/^ +$last <.* ([0-9]+) to ([0-9]+).*/\1 \2/p" <<<"$help") 2>/dev/null) ;;
     *:-*) words=$(sed -En 's/^ +(-., )?(--[a-z]+).*/\2/p' <<<"$help") ;;
     *) words=$(sed -En 's/^  ([a-z]+) .*/\1/p' <<<"$help") ;;

@@ -76,7 +76,7 @@ class Model(Text):
         if not head:
             begins = re.search(r"\S|$", text).start()
             self.refuse("not of the form: des (first state, transitions, states)", begins)
-        self.first, count, self.states = (int(it[:99]) for it in head.groups())
+        self.first, count, self.states = (int(it.lstrip("0")[:99] or 0) for it in head.groups())
         if self.states > MOST_STATES:
             self.refuse("too many states: at most 2147483648", head.start(3))
         self.check(head.start(1), self.first)

@@ -198,7 +198,7 @@ def check(automaton, text, player, inputs, outputs):
     _, rows = reached(("at", first, automaton.first), row)
     said = engine.verdict(Game.of_rows(rows), Solution(dict.fromkeys(range(len(rows)), (player, None))))
     if said != "ok":
-        raise Refused(f"the machine that was found fails: {said or 'no verdict'}", FILE)
+        raise Refused(f"the machine that was found fails: {said}", FILE)
 
 
 def draw(path, rows):

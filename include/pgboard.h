@@ -193,9 +193,10 @@ struct pgboard_results {
 PGBOARD_CALL
 uint32_t pgboard_solve(const struct pgboard_game *game, struct pgboard_results *results, struct pgboard_report *report);
 
-/* The same as pgboard_solve, with a bound on the recursion, which takes exponential time on some games: the answer is
- * PGBOARD_GAVE_UP if it needs more steps. A step begins a subgame. Tests show when a call gives up, and that the same call on the same
- * game needs the same number of steps each time. The searches before the recursion have bounds of their own. */
+/* The same as pgboard_solve, with a bound on the recursion, whose proved bound is exponential: the answer is
+ * PGBOARD_GAVE_UP if it needs more steps. A step begins a subgame. With at least 3 * 2^n - 2 steps for n vertices no call gives up.
+ * Tests show when a call gives up with fewer, and that the same call on the same game needs the same number of steps each time. The
+ * searches before the recursion have bounds of their own. */
 PGBOARD_CALL
 uint32_t pgboard_solve_within(const struct pgboard_game *game, uint64_t steps, struct pgboard_results *results,
                               struct pgboard_report *report);
@@ -318,17 +319,19 @@ uint32_t pgboard_board_entry(struct pgboard_board *board, uint64_t number, struc
 PGBOARD_CALL
 uint32_t pgboard_board_finish(struct pgboard_board *board, struct pgboard_report *report);
 
-/* The same with a bound, as of pgboard_solve_within: PGBOARD_GAVE_UP is a fault too. A full board needs no step. */
+/* The same with a bound, as of pgboard_solve_within, where n vertices are unsettled: PGBOARD_GAVE_UP is a fault too. A full board needs
+ * no step. */
 PGBOARD_CALL
 uint32_t pgboard_board_finish_within(struct pgboard_board *board, uint64_t steps, struct pgboard_report *report);
 
 /* Settles more of what is left, by posts of worker 0; tests show that they are those of pgboard_board_finish, in the same order. A
- * call makes one search or, after the last search, takes up to `*steps` steps of the recursion. It leaves in `*steps` the number of
- * steps that it did not take; a search takes none. The answer is PGBOARD_OK once all is settled, and before that PGBOARD_GAVE_UP,
- * which is no fault here. What is settled stays, whatever the answer. The next call goes on where this one ended. If a post was
- * accepted in between, or memory was refused, it begins anew. So a program can do something else between two calls, or stop. Memory
- * aside, a loop of calls with at least one step each, and finitely many accepted posts between them, ends. The faults are
- * PGBOARD_BOARD_CLOSED and PGBOARD_MEMORY. */
+ * call makes one search or, after the last search, takes up to `*steps` steps of the recursion. It leaves in `*steps` the number
+ * of steps that it did not take: a search takes none, and a call of the recursion that answers PGBOARD_GAVE_UP takes all, so a
+ * program can bound their sum. The answer is PGBOARD_OK once all is settled, and before that PGBOARD_GAVE_UP, which is no fault
+ * here. What is settled stays, whatever the answer. The next call goes on where this one ended. If a post was accepted in between,
+ * or memory was refused, it begins anew. So a program can do something else between two calls, or stop. Memory aside, a loop of
+ * calls with at least one step each, and finitely many accepted posts between them, ends. The faults are PGBOARD_BOARD_CLOSED and
+ * PGBOARD_MEMORY. */
 PGBOARD_CALL
 uint32_t pgboard_board_advance(struct pgboard_board *board, uint64_t *steps, struct pgboard_report *report);
 

@@ -1,11 +1,7 @@
 #!/usr/bin/env python3
-"""Tests of bench/run: tests/bench.py [PROGRAM] [-k WORD]
+"""Tests of bench/run: tests/bench.py [PROGRAM] [-k WORD]"""
 
-The commands of docs/BENCHMARKS.md print its tables, and each command runs. A program's wrong answer is named,
-in a measured run too. The cells of given figures, the units and the game that takes the recursion long are
-worked out here again. The comparator's fast parts agree with its plain ones.
-"""
-
+import math
 import os
 import re
 import sys
@@ -34,6 +30,13 @@ ANSWERS = [
     ("own_loops", "solve", "solve", "", 1),
     ("chain", "wrong", "verify", "s/at .*/at 7/", 1),
 ]
+# the least and the greatest number of successors, the share of the edges of a form, and that form
+SPARSE = {
+    "small_world": ((3, 4, 0.9), lambda v, w: (w - v) % 100_000 in (1, 2, 99_998, 99_999)),
+    "clusters": ((1, 3, 1), lambda v, w: (w // 50 - v // 50) % 2_000 in (0, 1)),
+    "layers": ((1, 3, 1), lambda v, w: v - 15 <= w <= v + 5),
+    "one_or_two_1": ((1, 2, 1), lambda *_: True),
+}
 
 
 @common.needs("rustc")
@@ -85,13 +88,47 @@ class Bench(unittest.TestCase):
         bench.run = lambda who, words, *_: (0, *took["verify" if words[0] == "verify" else who].pop(0))
         solve = bench.case("own_loops", "solve")
         # medians: 4 ms, 30 ms and 4 MiB; 3 ms, 200 ms and 2 MiB; and 2 ms, 20 ms and 3 MiB of its verify
-        wanted = ["4.0 (1.33, 0.80)", "30.0 (0.15, 0.14)", "4.0 (2.00, 1.33)"]
-        self.assertEqual([self.bench.cell(solve, it) for it in bench.columns], wanted)
+        wanted = ["4.0 (1.33, 0.80)", "30.0 (0.15, 0.14)", "4.0 (2.00, 1.33)", "-"]
+        self.assertEqual([self.bench.cell([solve], it) for it in [*bench.columns, "plain"]], wanted)
         # (without its input `tidy` would be as fast in both, and as wrong)
         piped = []
         bench.run = lambda who, words, out, given: piped.append((words, given)) or (0, 1, 1, 1)
         bench.case("own_loops", "tidy-pipe")
         self.assertEqual(piped, [(["tidy"], "folder/own_loops.pg")] * 8)
+
+    def test_the_cells_of_several_games(self):
+        """The median and the greatest figure, with ratios of medians, and a plain recursion that takes long."""
+        cases = [
+            [{"cpu": mine, "plain": plain}, {"cpu": other, "plain": other}, {"cpu": verify}]
+            for mine, plain, other, verify in ((4, 40, 1, 1), (1, math.inf, 2, 2), (3, 30, 8, 4))
+        ]
+        wanted = ["3000.0 (1.50, 0.75), at most 4000.0", "40000.0 (20.00), at most inf"]
+        self.assertEqual([self.bench.cell(cases, it) for it in ("cpu", "plain")], wanted)
+        self.assertEqual(self.bench.cell(cases[1:2], "plain"), "inf (inf)")
+
+    def test_the_plain_recursion(self):
+        """It is a column of `solve` alone; what takes over the limit is ended, and a wrong status is named."""
+        words = ["--only", "own_loops", "--commands", "tidy", "solve", "--columns", "plain"]
+        self.assertRegex(self.ran(*words)[2], r"^\| own_loops \| - \| [0-9.]+ \([0-9.]+\) \|$")
+        bench = self.bench.Bench.__new__(self.bench.Bench)
+        bench.runs, bench.comparator, bench.scratch, bench.folder, bench.wrong = 3, "comparator", "", "", []
+        bench.agree = lambda *_: True
+        for statuses, wanted in (((0, 0, 0, 0), 3), ((0, 124), math.inf), ((0, 1), "WRONG")):
+            took = iter([(status, 9, at, 9) for status, at in zip(statuses, (1, 2, 4, 3))])
+            bench.run = lambda *_: next(took)
+            self.assertEqual(bench.plain("game"), wanted)
+        self.assertEqual(bench.wrong, ["game plain WRONG: status 1, or no solution"])
+
+    def test_the_sparse_games_are_those_of_the_page(self):
+        """Each has so many vertices, rows that are so long, and this share of edges of a form."""
+        n, found = 100_000, {}
+        for name, (_, is_so) in SPARSE.items():
+            text = (self.bench.inputs([f"{name}_{n}"]) / f"{name}_{n}.pg").read_text(encoding="ascii")
+            rows = [[*map(int, line[:-1].split()[3].split(","))] for line in text.splitlines()[1:]]
+            forms = [is_so(v, w) for v, row in enumerate(rows) for w in row]
+            sizes = {len(row) for row in rows}
+            found[name] = len(rows), min(sizes), max(sizes), round(sum(forms) / len(forms), 2)
+        self.assertEqual(found, {name: (n, *it[0]) for name, it in SPARSE.items()})
 
     def test_the_figures_of_a_run_are_in_their_units(self):
         bench = self.bench.Bench.__new__(self.bench.Bench)
@@ -107,7 +144,7 @@ class Bench(unittest.TestCase):
 
     def test_the_comparator_is_built_with_optimisation(self):
         source = common.make_folder(self) / "main.rs"
-        source.write_text('fn main() { println!("{}", cfg!(debug_assertions)); }\n', encoding="ascii")
+        source.write_text('fn main() { println!("{}", cfg!(debug_assertions)); }\n')
         made = self.bench.build(str(source), "test_of_optimisation")
         self.addCleanup(os.unlink, made)
         self.assertEqual(common.run([made])[1], b"false\n")

@@ -1,16 +1,5 @@
 #!/usr/bin/env python3
-"""Tests of examples/board and bench/library over the static library: tests/boards.py [PROGRAM] [-k WORD]
-
-What referee.py says of stand-in solvers is known, and what it prints is a solution by the definitions. The
-solvers print right, wrong and partial solutions, or nonsense, crash, or never end. hard.cpp, built by two
-compilers and with sanitizers, prints solutions of random games, and of games that take the recursion long. So
-it does beside a liar (liar.c), and where each of its claims is changed. Its faults are pgboard's.
-
-bench/library.cpp prints solutions of random games in each of its modes. bench/library names a wrong solution,
-its cells are worked out again from given figures, and the commands of docs/BENCHMARKS.md print its tables.
-
-PGBOARD_ARCHIVE names another static library, as in embed.py.
-"""
+"""Tests of examples/board and bench/library over the static library: tests/boards.py [PROGRAM] [-k WORD]"""
 
 import os
 import random
@@ -29,11 +18,13 @@ import random_games
 
 BOARD = common.ROOT / "examples" / "board"
 SAID = re.compile(r"referee: solver (\d+) \((.*)\): (.*), \d+\.\d s: (.*)")
+NO_CHOICE = 4_294_967_295
 GAME = {3: (2, 0, {3, 9}), 9: (1, 1, {9}), 12: (0, 1, {3})}
 # what a solver prints, and what is said of it
 SAID_OF = {
     "3 0 3; 9 1 9; 12 0;": "Even settled 2, of which 2 of 2 claimed; Odd settled 1, of which 1 of 1 claimed",
     "3 0 3;": "Even settled 2, of which 1 of 1 claimed",
+    f"3 0 {'0' * 4400}3;": "Even settled 2, of which 1 of 1 claimed",
     # (the winner of 12 does not own it)
     "3 0 3; 12 0 3;": "Even settled 2, of which 2 of 2 claimed",
     "3 0 9;": "Even refused: 3 leaves to 9",
@@ -43,8 +34,8 @@ SAID_OF = {
     "": "nothing is claimed",
     "\n\nhello;\n3 0 3;": "output:3:1: expected an identifier, found hello",
     "3 0 3;\n\n 9 2 9;": "output:3:4: expected a winner, 0 or 1, found 2",
-    "4 0;": "vertex 4 is not in the game",
-    "3 0 3; 9 1 9; 3 0 3;": "output:1:15: vertex 3 is written twice",
+    "4 0;": "vertex 4: not in the game",
+    "3 0 3; 9 1 9; 3 0 3;": "output:1:15: vertex 3: written twice",
     "\xff;": "output:1:1: expected an identifier, found \ufffd",
     "paritysol 1; paritysol 2; 9 1 4;": "Odd refused: no choice, or a bad one, at 9",
     "won by odd: 9->9\nwon by even: 12 3->3": "Even settled 2, of which 2 of 2 claimed; "
@@ -65,7 +56,6 @@ class Boards(unittest.TestCase):
         return path
 
     def solves(self, game, out):
-        """That a text is a solution of the game with choices where they are needed."""
         self.assertIsNone(plain.written_fault(game, out), plain.written_game(game))
 
 
@@ -79,7 +69,7 @@ class Referee(Boards):
         said = self.folder / "said"
         command = ["sh", "-c", 'exec "$@" 2>"$0"', said, sys.executable, "-B", *script, *words]
         status, out, _ = common.run(command, given, timeout=120, env={**self.env, **env})
-        return status, out, said.read_text(encoding="utf-8")
+        return status, out, said.read_text()
 
     def after(self, worker, commands):
         """A solver that runs commands of sh once the referee has said what became of another solver."""
@@ -140,7 +130,7 @@ class Referee(Boards):
             solver = f"sh -c 'sleep 600 >/dev/null & echo $! >{pid}; cat {half}; {end}'"
             lines, left = self.referee(GAME, solver, more=["--time", "600"])
             self.assertEqual((lines[0][2:], left), ((how, "Odd settled 1, of which 1 of 1 claimed"), 2))
-            common.wait_until(lambda: not common.is_alive(int(pid.read_text(encoding="ascii"))))
+            common.wait_until(lambda: not common.is_alive(int(pid.read_text())))
         self.assertEqual(self.referee(GAME, "false")[0][0][2:], ("status 1", "nothing is claimed"))
 
     def test_a_solver_that_never_ends_is_ended_with_all_that_it_started(self):
@@ -158,7 +148,7 @@ class Referee(Boards):
             ({"1": "Odd settled 1, of which 1 of 1 claimed", "2": "nothing is claimed"}, 2),
         )
         self.assertLess(time.monotonic() - begun, 60)
-        common.wait_until(lambda: not common.is_alive(int(pid.read_text(encoding="ascii"))))
+        common.wait_until(lambda: not common.is_alive(int(pid.read_text())))
 
     def test_what_a_solver_starts_in_another_session_does_not_hold_it_up(self):
         self.file("game.pg", "0 0 0 0;\n")
@@ -211,10 +201,9 @@ class Referee(Boards):
         self.assertIn(ran.returncode, (130, -signal.SIGINT))
         self.assertEqual([*scratch.iterdir()], [])
         for it in pids.glob("?"):
-            common.wait_until(lambda it=it: not common.is_alive(int(it.read_text(encoding="ascii"))))
+            common.wait_until(lambda it=it: not common.is_alive(int(it.read_text())))
 
     def by_hand(self, lines, *words):
-        """A run of the script in which these lines come first."""
         program = "\n".join(
             [
                 f"import sys; sys.path.insert(1, {str(BOARD)!r}); import referee",
@@ -271,7 +260,7 @@ class Referee(Boards):
             GAME, "yes '3 0 3;'", **self.by_hand(["referee.MOST = 10**6"], "--time", "600")
         )
         self.assertEqual(
-            lines[0][2:], ("ended, since it printed too much", "output:2:1: vertex 3 is written twice")
+            lines[0][2:], ("ended, since it printed too much", "output:2:1: vertex 3: written twice")
         )
 
     def test_how_a_solver_gets_the_game_and_gives_the_solution(self):
@@ -284,7 +273,7 @@ class Referee(Boards):
         }.items():
             got = self.folder / f"game of {name}".replace(" ", "_")
             self.assertEqual(self.referee(GAME, solver.format(got, solution))[0][0][2:], ("status 0", said))
-            self.assertEqual(got.read_text(encoding="ascii"), plain.written_game(GAME))
+            self.assertEqual(got.read_text(), plain.written_game(GAME))
         lines, _ = self.referee(GAME, "sh -c 'test -e {game} && test -e {solution}'")
         self.assertEqual(lines[0][2:], ("status 1", "nothing is claimed"))
         # (a path is one word, whatever it has)
@@ -306,7 +295,7 @@ class Referee(Boards):
             "false",
         ]
         self.referee({**GAME, 20: (1, 1, {20})}, *solvers, more=["--picture", path])
-        text = path.read_text(encoding="utf-8")
+        text = path.read_text()
         counts = {
             name: int(count) for count, name in re.findall(r'<text x="\d+" y="\d+">(\d+) (.*?)</text>', text)
         }
@@ -331,7 +320,7 @@ class Referee(Boards):
             (4, "referee: /nowhere.pg: No such file or directory", "/nowhere.pg"),
             (2, "referee: --solver sh -c 'x: No closing quotation", "--solver", "sh -c 'x", good),
             (2, "referee: --solver: there is no command", "--solver", " ", good),
-            (2, r"[\s\S]*argument --time: invalid seconds value: '0'", "--time", "0", good),
+            (2, r"[\s\S]*argument --time: invalid number of seconds .* value: '0'", "--time", "0", good),
             (2, r"[\s\S]*argument --picture: .* \(.svg\) value: 'run.png'", "--picture", "run.png", good),
         ):
             with self.subTest(words):
@@ -351,10 +340,6 @@ class Referee(Boards):
         self.assertEqual((status, err), (0, f"{said}referee: the board itself settled 3 of 3\n"))
 
 
-def of_degree_two(chance, size):
-    return {v: (v, chance.randrange(2), set(chance.sample(range(size), 2))) for v in range(size)}
-
-
 def layers(chance, size):
     """Edges mostly lead down or stay near, so that many small parts are won one after another."""
     width, priorities = chance.choice([3, 5, 8]), chance.choice([3, size])
@@ -371,202 +356,116 @@ def layers(chance, size):
     }
 
 
-def ring(chance, size):
-    return {
-        v: (v, chance.randrange(2), {(v + 1) % size, (v + 2 + chance.randrange(63)) % size})
-        for v in range(size)
-    }
+def false_claims(chance, game):
+    """Lines for claims.c: a player, and rows that he owns in part, of which he loses at least one."""
+    winners = plain.winners(game)
+    ids = sorted(game)
+    lines = []
+    for player in (0, 1):
+        lost = [it for it in ids if winners[it] != player]
+        for _ in range(4 if lost else 0):
+            rows = {chance.choice(lost), *chance.sample(ids, chance.randint(0, len(ids)))}
+            lines.append(f"{player} {len(rows)}")
+            for it in sorted(rows):
+                _, owner, to = game[it]
+                choice = ids.index(chance.choice(sorted(to))) if owner == player else NO_CHOICE
+                lines.append(f"{ids.index(it)} {choice}")
+    return "\n".join(lines) + "\n"
 
 
 @common.needs("g++")
-class Hard(Boards):
+class Outside(Boards):
     @classmethod
     def setUpClass(cls):
         super().setUpClass()
-        cls.programs = {}
-        for compiler, flags in (
-            ("g++", ["-O2"]),
-            ("g++", ["-O1", *embed.SANITIZERS]),
-            ("g++", ["-O1", "-g", "-fsanitize=thread"]),
-            ("clang++", ["-O2"]),
-        ):
-            if compiler in common.installed("g++", "clang++"):
-                cls.programs[" ".join([compiler, *flags])] = cls.built(compiler, flags)
+        sanitizers = [embed.SANITIZERS, ["-g", "-fsanitize=thread"]]
+        builds = [["g++", "-O2"], *(["g++", "-O1", *it] for it in sanitizers)]
+        builds += [["clang++", "-O2"]] * ("clang++" in common.installed("clang++"))
+        cls.programs = {" ".join(words): cls.built(*words) for words in builds}
         cls.program = cls.programs["g++ -O2"]
-        # the same with a liar
-        wrapped = [f"-Wl,--wrap=pgboard_board_{it}" for it in ("open_text", "post", "advance")]
-        status, _, err = embed.run(["cc", *embed.FLAGS, "-c", "tests/liar.c", "-o", cls.folder / "liar.o"])
+        # the same beside others
+        wrapped = "-Wl,--wrap=pgboard_board_post,--wrap=pgboard_board_finish"
+        claims = cls.folder / "claims.o"
+        status, _, err = embed.run(["cc", *embed.FLAGS, "-c", "tests/claims.c", "-o", claims])
         assert (status, err) == (0, ""), err
-        cls.liar = cls.built("g++", ["-O2", *wrapped], cls.folder / "liar.o")
+        cls.beside = cls.built("g++", "-O2", wrapped, claims)
 
     @classmethod
-    def built(cls, compiler, flags, *parts):
-        program = cls.folder / f"hard{len([*cls.folder.glob('hard*')])}"
-        words = [
-            compiler,
-            "-std=c++17",
-            *embed.WARNINGS,
-            *flags,
-            BOARD / "hard.cpp",
-            *parts,
-            *embed.ARCHIVES,
-            "-lpthread",
-            "-o",
-            program,
-        ]
-        status, _, err = embed.run(words)
+    def built(cls, compiler, *flags):
+        program = cls.folder / f"outside{len([*cls.folder.glob('outside*')])}"
+        words = [compiler, "-std=c++17", *embed.WARNINGS, BOARD / "outside.cpp", *flags, *embed.ARCHIVES]
+        status, _, err = embed.run([*words, "-lpthread", "-o", program])
         assert (status, err) == (0, ""), err
         return program
 
-    def ran(self, program, game, *words, **env):
-        """The solution of a game, and how many posts there were, how many were refused, what they settled."""
+    def ran(self, program, game, **env):
         path = self.file("game.pg", plain.written_game(game))
-        status, out, err = common.run(
-            [program, "--stats", *words, path], timeout=300, env={**os.environ, **env}
-        )
-        said = re.fullmatch(
-            r"hard: tangles \d+, posts (\d+), refused (\d+), settled by posts (\d+) of (\d+)\n", err.decode()
-        )
+        status, out, err = common.run([program, path], timeout=300, env={**os.environ, **env})
+        line = rf"outside: posts (\d+), stale (\d+), refused (\d+), settled (\d+) of {len(game)}\n"
+        said = re.fullmatch(line, err.decode())
         self.assertTrue(status == 0 and said, (status, err))
-        posts, refused, settled, size = map(int, said.groups())
-        self.assertEqual(size, len(game))
-        return out, posts, refused, settled
+        self.solves(game, out)
+        return [int(it) for it in said.groups()]
 
-    def winners(self, out):
-        return [line.split()[1][0] for line in out.decode().splitlines()[1:]]
+    def game(self, chance, *sizes):
+        kind = chance.choice([random_games.random_game, layers])
+        return kind(chance, chance.choice(sizes))
 
     def test_random_games(self):
         for name, program in self.programs.items():
-            for seed in range(150 if name == "g++ -O2" else 40):
-                with self.subTest(name, seed=seed):
+            count = 150 if name == "g++ -O2" else 30
+            games = [self.game(random.Random(seed), 8, 8, 20, 60, 200) for seed in range(count)]
+            ran = [self.ran(program, game) for game in games]
+            posts, _, refused, settled = map(sum, zip(*ran))
+            self.assertTrue(posts > count and settled > count and refused == 0, (name, ran))
+
+    def test_false_stale_and_late_claims(self):
+        """Each solution is right, and no false claim is accepted, or claims.c ends the program."""
+        for how in ("", "stale", "late", "false"):
+            for seed in range(40):
+                with self.subTest(how, seed=seed):
                     chance = random.Random(seed)
-                    game = chance.choice([random_games.random_game, layers])(
-                        chance, chance.choice([8, 8, 20, 60, 200])
-                    )
-                    out, _, refused, _ = self.ran(
-                        program, game, "--threads", str(chance.choice([1, 2, 4, 64]))
-                    )
-                    self.solves(game, out)
-                    self.assertEqual(refused, 0)
+                    game = self.game(chance, 8, 20, 40)
+                    claims = self.file("claims", false_claims(chance, game))
+                    posts, stale, refused, settled = self.ran(self.beside, game, HOW=how, CLAIMS=str(claims))
+                    self.assertEqual(refused, min(posts, 2) if how == "false" else 0)
+                    if how in ("stale", "late"):
+                        self.assertEqual(stale, posts)
+                    if how in ("late", "false"):
+                        self.assertEqual(settled, len(game) if posts and how == "late" else 0)
 
-    def test_searches_alone_settle_all(self):
-        """Also games that take the recursion long."""
-        games = [plain.ladder(40), plain.ladder(2_000), of_degree_two(random.Random(1), 30_000)]
-        for seed in range(80):
-            chance = random.Random(seed)
-            kind = chance.choice([random_games.random_game, layers, of_degree_two, ring])
-            games.append(
-                kind(chance, chance.choice([8, 20, 60, 200, 2_000] if kind is not ring else [100, 2_000]))
-            )
-        for at, game in enumerate(games):
-            with self.subTest(at):
-                out, _, refused, settled = self.ran(self.liar, game, LIE="alone")
-                self.assertEqual((refused, settled), (0, len(game)))
-                path = self.file("game.sol", out)
-                self.assertEqual(common.program("verify", self.folder / "game.pg", path)[1], b"ok\n")
-
-    def test_a_liar_beside_changes_no_winner(self):
-        for seed in range(60):
-            chance = random.Random(seed)
-            game = chance.choice([random_games.random_game, layers])(
-                chance, chance.choice([8, 20, 200, 2_000])
-            )
-            out, _, refused, _ = self.ran(self.liar, game, LIE="beside")
-            self.assertEqual((refused, self.winners(out)), (0, self.winners(self.ran(self.program, game)[0])))
-
-    def test_searches_whose_claims_are_refused_leave_all_to_the_board(self):
-        for levels in range(25, 29):
-            out, posts, refused, settled = self.ran(self.liar, plain.ladder(levels), LIE="instead")
-            self.solves(plain.ladder(levels), out)
-            self.assertEqual((refused, settled), (posts, 0))
-            self.assertGreater(refused, 0)
-
-    def test_a_run_that_does_not_end(self):
-        # nobody finds a solution: the recursion takes too long, and each claim is changed
-        path = self.file("game.pg", plain.written_game(plain.ladder(60)))
-        env = {**os.environ, "LIE": "instead"}
-        begun = time.monotonic()
-        self.assertEqual(
-            common.run([self.liar, "--timeout", "1.5", path], env=env),
-            (124, b"", b"hard: the time is over\n"),
-        )
-        self.assertTrue(1.5 < time.monotonic() - begun < 30)
-        for number in (signal.SIGINT, signal.SIGTERM):
-            with subprocess.Popen(
-                [self.liar, path], stdout=subprocess.PIPE, stderr=subprocess.PIPE, env=env
-            ) as ran:
-                time.sleep(0.5)
-                ran.send_signal(number)
-                self.assertEqual((*ran.communicate(timeout=60), ran.returncode), (b"", b"", -number))
-
-    def test_refused_memory(self):
-        path = self.file("game.pg", plain.written_game(ring(random.Random(3), 20_000)))
-        statuses = set()
-        for limit in (*range(10_000, 60_000, 3_000), *range(60_000, 700_000, 60_000)):
-            status, out, err = common.run(
-                ["bash", "-c", 'ulimit -v "$0"; exec "$@"', str(limit), self.program, path]
-            )
-            statuses.add(status)
-            if status == 0:
-                verdict = common.program("verify", path, self.file("game.sol", out))[1]
-                self.assertEqual((verdict, err), (b"ok\n", b""), limit)
-            elif status != 127:  # (the program did not start)
-                self.assertEqual((status, out, err), (5, b"", b"hard: no memory\n"), limit)
-        self.assertGreaterEqual(statuses, {0, 5})
-
-    def test_faults_are_those_of_the_program(self):
-        texts = [
-            "0 0 0 ?;",
-            "0 0 0",
-            "2147483648 0 0 0;",
-            "0 0 2 0;",
-            "0 0 0 0; 0 1 1 0;",
-            "0 0 0 7;",
-            " " * 268_435_457,
-        ]
-        runs = [([self.file("bad.pg", text)], b"") for text in texts]
-        runs += [
-            ([], texts[0].encode()),
-            ([], b"parity 9; 9 0 0 3,9,3; 3 1 1 9 \"a;b\";"),
-            (["/nowhere"], b""),
-            ([self.folder], b""),
-        ]
-        for words, given in runs:
-            with self.subTest(words, given=given):
-                status, out, err = common.program("solve", *words, given=given)
-                self.assertEqual(
-                    common.run([self.program, *words], given),
-                    (status, out, err.replace(b"pgboard:", b"hard:")),
-                )
-        full = common.run(
-            ["sh", "-c", 'exec "$0" "$1" >/dev/full', self.program, common.ROOT / "examples" / "requests.pg"]
-        )
-        self.assertEqual(full, (4, b"", b"hard: write fault\n"))
-
-    def test_words_that_are_refused(self):
-        for words in (
-            "a b", "--other", "--threads", "--threads 0", "--threads 65", "--threads x", "--timeout nan"
-        ):
+    def test_statuses(self):
+        good, bad = common.ROOT / "examples" / "requests.pg", self.file("bad.pg", "0 0 0 7;")
+        refused = "outside: .*"
+        fault = r"outside: a successor is no vertex \(0\)"
+        runs = [
+            (2, "outside: usage: .*", "a b"), (2, "outside: usage: .*", "--help"), (3, fault, f"{bad}"),
+            (4, "outside: read or write fault", "/nowhere"), (4, "outside: read or write fault", "/tmp"),
+            (4, "outside: read or write fault", f"{good} >/dev/full"), (3, refused, f"<{bad}"),
+            (0, "outside: posts .*", f"<{good}"), (5, "outside: no memory", f"{self.long()}"),
+        ]  # fmt: skip
+        for status, line, words in runs:
             with self.subTest(words):
-                status, out, err = embed.run([self.program, *words.split()])
-                said = err.startswith("hard: usage: hard [--threads N]")
-                self.assertEqual((status, out, said), (2, "", True), err)
+                limit = "ulimit -v 100000; " if status == 5 else ""
+                got = common.run(["bash", "-c", f'{limit}"$0" {words}', self.program])
+                self.assertEqual((got[0], bool(got[1])), (status, status == 0), got[2])
+                self.assertRegex(got[2].decode(), rf"^{line}\n$")
+
+    def long(self):
+        """A game that takes more memory."""
+        return self.file("long.pg", "".join(f"{v} {v} 0 {v};\n" for v in range(500_000)))
 
     @unittest.skipIf(embed.OTHER, "another library is tested")
     def test_the_commands_of_the_page(self):
-        commands = re.findall(
-            r"(?m)^\$ (.*)$",
-            common.text_of("examples", "README.md").split("`board/hard.cpp`")[1].split("\n## ")[0],
-        )
+        page = common.text_of("examples", "README.md").split("`board/outside.cpp`")[1].split("\n## ")[0]
+        commands = re.findall(r"(?m)^\$ (.*)$", page)
         for name in ("crates", "include", "examples"):
             (self.folder / name).symlink_to((common.PROVED if name == "crates" else common.ROOT) / name)
-        status, out, err = common.run(
-            ["bash", "-e", "-c", "\n".join(commands)], timeout=3000, cwd=self.folder
-        )
+        shell = ["bash", "-e", "-c", "\n".join(commands)]
+        status, out, err = common.run(shell, timeout=3000, cwd=self.folder)
         self.assertEqual((status, len(commands)), (0, 3), out + err)
-        self.solves(
-            plain.game_of(common.text_of("examples", "requests.pg").encode()), out[out.index(b"paritysol") :]
-        )
+        game = plain.game_of(common.text_of("examples", "requests.pg").encode())
+        self.solves(game, out[out.index(b"paritysol") :])
 
 
 @common.needs("rustc", "c++")
@@ -584,45 +483,28 @@ class Library(Boards):
         self.assertNotIn(b"Traceback", err, err.decode())
         return status, out.decode().splitlines()
 
-    def test_the_commands_of_the_page_print_its_tables(self):
+    def test_the_command_of_the_page_prints_its_table(self):
         page = common.text_of("docs/BENCHMARKS.md")
-        commands = re.findall(r"(?m)^bench/library (.+)$", page)
-        heads = re.findall(r"(?m)^(\| game \|.*)$", page)
-        self.assertEqual(
-            ([it.split()[0] for it in commands], len(heads)), (list(self.bench.HEADS), len(self.bench.HEADS))
-        )
-        for words, head in zip(commands, heads):
-            with self.subTest(words):
-                status, shown = self.table(*words.split())
-                self.assertEqual((status, shown[0]), (0, head), shown)
-                self.assertRegex(
-                    shown[2], rf"^\| own_loops( \| -?[0-9.]+( \(-?[0-9.]+\))?){{{head.count('|') - 2}}} \|$"
-                )
-
-    def test_the_cells_of_hard(self):
-        # the second run of `solve` takes over 20 s, and the least time counts
-        took = iter([(8, 9, ""), (5, 9, ""), None, (3, 9, ""), (6, 9, ""), (4, 9, "")])
-        bench = self.bench.Bench.__new__(self.bench.Bench)
-        bench.program, bench.example, bench.runs, bench.scratch, bench.wrong = "program", "example", 3, "", 0
-        bench.whole = lambda *words, out="": out == "verdict" or next(took)
-        self.assertEqual(bench.row("hard", "game"), ["6.0", "3.0 (0.50)"])
+        words = re.findall(r"(?m)^bench/library (.+)$", page)
+        heads = re.findall(r"(?m)^(\| game \| `solve` in memory.*)$", page)
+        self.assertEqual((len(words), len(heads)), (1, 1))
+        status, shown = self.table(*words[0].split())
+        self.assertEqual((status, shown[0]), (0, heads[0]), shown)
+        self.assertRegex(shown[2], r"^\| own_loops( \| -?[0-9.]+( \(-?[0-9.]+\))?){4} \|$")
 
     def test_a_solution_that_the_program_refuses_is_named(self):
         text = f'#!/bin/sh\ncase "$*" in verify*.pg*out) exit 1 ;; *) exec {common.PROGRAM} "$@" ;; esac\n'
-        refuses = common.write_program(self.folder / "refuses", text)
-        for table in self.bench.HEADS:
-            status, shown = self.table(table, program=refuses)
-            self.assertEqual((status, shown[2]), (1, "| own_loops | WRONG |"), shown)
+        status, shown = self.table(program=common.write_program(self.folder / "refuses", text))
+        self.assertEqual((status, shown[2]), (1, "| own_loops | WRONG |"), shown)
 
     def test_the_cells_of_a_solving(self):
         # reading takes 10 ms, a byte of 200 more 0.1 ms, and so 5 ms are for the 50 bytes of the solution
         took = {"verify": 10, "tidy": 30, "solve": 60}
         sizes = {"tidy": 200, "solve": 50}
-        row = self.row("solve", took, sizes, solve=(0, 0, 0, 49.5), known=(0, 0, 0, 54), make=(0, 0, 0, 9))
+        row = self.row(took, sizes, solve=(0, 0, 0, 49.5), known=(0, 0, 0, 54), make=(0, 0, 0, 9))
         self.assertEqual(row, ["45.0", "49.5 (1.10)", "54.0 (1.20)", "9.0 (0.20)"])
 
-    def row(self, table, took, sizes, **ran):
-        """The cells of given figures: times and bytes of commands, and of each mode its four times."""
+    def row(self, took, sizes, **ran):
         bench = self.bench.Bench.__new__(self.bench.Bench)
         bench.program, bench.runs, bench.wrong, last = "program", 3, 0, []
 
@@ -632,7 +514,7 @@ class Library(Boards):
 
         bench.whole, bench.size = whole, lambda: sizes[last[-1]]
         bench.in_library = lambda game, mode: ran[mode]
-        return bench.row(table, "game")
+        return bench.row("game")
 
     def test_each_mode_solves_random_games(self):
         library = self.bench.built(embed.ARCHIVES[0])

@@ -1,13 +1,9 @@
 #!/usr/bin/env python3
 """Finds wrong bodies that no contract can refuse.
 
-No contract can say that memory was really refused. So a value that says it is made in an implementation of `From`, of the
-allocator's error. All other code passes it on: by `?`, or in an arm whose pattern takes such a value.
-
-Nor can one say that workers run at once, or that an office accepts anything. So each file of tests/wrong_bodies names a unit
-test that has to fail on the edited sources: `file:` and pairs of `old:` and `new:` as in the must-fail edits, with paths from
-the repository's top, and `test:` with the crate and the test. The test runs alone and without proofs (`rt try --test`) in a copy
-of the crates.
+Each file of tests/wrong_bodies names a unit test that has to fail on the edited sources: `file:` and pairs of
+`old:` and `new:` as in the must-fail edits, with paths from the top, and `test:` with the crate and the test.
+Only the allocator's error may make a value that says that memory was refused; all other code passes it on.
 """
 
 import re
@@ -31,7 +27,6 @@ def says_wrongly(line):
 
 
 def wrong_lines(text):
-    """The lines of a source that make such a value in no implementation of `From`."""
     in_from = False
     for line in text.splitlines():
         in_from = bool(MADE_HERE.match(line)) if line.startswith(("impl", "}")) else in_from
@@ -46,7 +41,7 @@ class Memory(unittest.TestCase):
         self.assertGreater(len(sources), 60)
         for path in sources:
             with self.subTest(path.name):
-                self.assertEqual([*wrong_lines(path.read_text(encoding="utf-8"))], [])
+                self.assertEqual([*wrong_lines(path.read_text())], [])
 
         # (and a line that makes one is found)
         for line in ("    Err(Fault::Memory)", "    Err(Stale) => Err(AllocError),", "    Stale | Memory => Memory,"):
@@ -54,11 +49,10 @@ class Memory(unittest.TestCase):
 
 
 def leave_one_test(folder, test):
-    """Removes all tests of a crate but one, so that no other has to run."""
     for path in folder.glob("src/**/*.rt"):
-        text = path.read_text(encoding="utf-8")
+        text = path.read_text()
         other = rf"(?ms)^(?:///[^\n]*\n)*#\[test\]\nfn (?!{test}\().*?^}}\n"
-        path.write_text(re.sub(other, "", text), encoding="utf-8")
+        path.write_text(re.sub(other, "", text))
 
 
 @common.needs("rt")
@@ -68,17 +62,17 @@ class WrongBodies(unittest.TestCase):
         self.assertTrue(edits)
         for path in edits:
             with self.subTest(path.stem):
-                self.judge([line.split(": ", 1) for line in path.read_text(encoding="utf-8").splitlines()])
+                self.judge([line.split(": ", 1) for line in path.read_text().splitlines()])
 
     def judge(self, lines):
         folder = common.make_folder(self)
         common.copy_crates(folder)
         (_, file), *pairs, (_, test) = lines
-        text = (folder / file).read_text(encoding="utf-8")
+        text = (folder / file).read_text()
         for (_, old), (_, new) in zip(pairs[::2], pairs[1::2], strict=True):
             self.assertEqual(text.count(old), 1)
             text = text.replace(old, new)
-        (folder / file).write_text(text, encoding="utf-8")
+        (folder / file).write_text(text)
         crate, test = test.split()
         leave_one_test(folder / "crates" / crate, test)
         # (without proofs a test takes long: a minute, on a slow machine, is not enough for each)

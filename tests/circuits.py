@@ -1,9 +1,5 @@
 """Reads circuits in the AIGER format (version 1.0), ASCII and binary, and follows them; writes tables as
-circuits of another kind.
-
-Nothing of it is taken from examples/lib/aiger.py, which writes circuits: tests compare the two. The form is
-that of Biere's description, "The AIGER And-Inverter Graph (AIG) Format" of 2007: literals, the order of
-sections, the order of gates and their differences in the binary form, and the symbols.
+circuits of another kind. Nothing of it is taken from examples/lib/aiger.py: tests compare the two.
 """
 
 
@@ -92,7 +88,6 @@ class Circuit:
         return found
 
     def step(self, state, read):
-        """The next state and what is written where this is read."""
         values = {
             0: 0,
             **dict(zip(self.inputs, map(int, read))),

@@ -32,10 +32,8 @@ SECTION = re.compile(r"(?m)^-- (args|file \S.*|stdin|stdout|stderr|status)\n")
 
 
 class Case:
-    """A case as its file tells it."""
-
     def __init__(self, name):
-        note, *parts = SECTION.split((CASES / name).read_text(encoding="ascii"))
+        note, *parts = SECTION.split((CASES / name).read_text())
         if any(re.search(r"(?m)^-- ", it) for it in (note, *parts[1::2])):
             raise ValueError(f"{name} has a section of another name")
         sections = list(zip(parts[::2], parts[1::2]))
@@ -58,8 +56,6 @@ class Case:
 
 
 class Cases(unittest.TestCase):
-    """A test for each file of tests/cli."""
-
     def judge(self, name):
         case = Case(name)
         errors = case.every("stderr") or [b""]
@@ -177,10 +173,7 @@ WRITING = [
 
 
 class Answers(unittest.TestCase):
-    """What the tests of devices and of limits share."""
-
     def check(self, got, wanted):
-        """Compares answers whose outputs may be too long to be shown."""
         self.assertEqual((got[0], got[2][:200]), (wanted[0], wanted[2]))
         self.assertTrue(wanted[1] in (None, got[1]), f"{len(got[1])} bytes, {got[1][:200]}, that are not those wanted")
 
@@ -254,13 +247,11 @@ def own_loops(count, priority=lambda v: 0):
 
 
 def rows_of(numbers, successors):
-    """Each of the vertices with the same successors."""
     row = b",".join(b"%d" % w for w in successors)
     return b"".join(b"%d 0 0 %s;\n" % (v, row) for v in numbers)
 
 
 def wide_vertex(count):
-    """A vertex that leads to all, and others with loops of their own."""
     return rows_of([0], range(count)) + own_loops(count).partition(b"\n")[2]
 
 
@@ -278,7 +269,6 @@ def chain_to_a_cycle(count):
 
 
 def all_to_even(count, own=False):
-    """A solution in which Even wins everywhere, by own loops if he has a choice."""
     return b"paritysol %d;\n" % (count - 1) + b"".join(b"%d 0 %d;\n" % (v, v) if own else b"%d 0;\n" % v for v in range(count))
 
 
@@ -360,7 +350,6 @@ class Limits(Answers):
         self.check(common.program(*words, given=text, timeout=300), wanted)
 
     def test_solve_the_greatest_game(self):
-        """Game and solution are as long as any, and the solution holds."""
         game = greatest_game()
         status, out, err = common.program("solve", given=game, timeout=300)
         self.assertEqual((status, err, len(game), len(out)), (0, b"", LONGEST_GAME, LONGEST_SOLUTION))

@@ -32,14 +32,14 @@ def last_built():
     return max(programs, key=lambda it: it.stat().st_mtime if it.exists() else 0)
 
 
-# the first word of a script may be the path of another one
+# the first word of a script may be the path of another one, which the environment has for the scripts that it runs
 IS_NAMED = bool(sys.argv[1:]) and not sys.argv[1].startswith("-")
-PROGRAM = pathlib.Path(os.path.abspath(sys.argv.pop(1))) if IS_NAMED else last_built()
+NAMED = sys.argv.pop(1) if IS_NAMED else os.environ.get("PGBOARD_TESTED")
+PROGRAM = pathlib.Path(os.path.abspath(NAMED)) if NAMED else last_built()
 
 
 def text_of(*path):
-    """The text of a file of the repository."""
-    return ROOT.joinpath(*path).read_text(encoding="utf-8")
+    return ROOT.joinpath(*path).read_text()
 
 
 def make_folder(case):
@@ -52,20 +52,18 @@ def make_folder(case):
 def write_program(path, text):
     """Writes a script that may be run, in a folder that is made where there is none, and returns its path."""
     path.parent.mkdir(parents=True, exist_ok=True)
-    path.write_text(text, encoding="utf-8")
+    path.write_text(text)
     path.chmod(0o755)
     return path
 
 
 def copy_crates(folder):
-    """Copies what proofs read of this tree."""
     shutil.copytree(ROOT / "crates", folder / "crates", ignore=shutil.ignore_patterns("out", "must-fail"))
     for name in ("crates.txt", "HANDLES"):
         shutil.copy(ROOT / name, folder)
 
 
 def load(path):
-    """A script of the repository as a module."""
     loader = importlib.machinery.SourceFileLoader(f"{path.parent.name}_{path.stem}", str(path))
     script = importlib.util.module_from_spec(importlib.util.spec_from_loader(loader.name, loader))
     loader.exec_module(script)
@@ -73,7 +71,6 @@ def load(path):
 
 
 def wait_until(is_so, seconds=60):
-    """Waits until something is so, which has to come within these seconds."""
     ends = time.monotonic() + seconds
     while not is_so():
         assert time.monotonic() < ends, "it takes too long"
@@ -87,7 +84,6 @@ def run(words, given=b"", timeout=60, **how):
 
 
 def program(*words, given=b"", **how):
-    """Runs the program under test likewise."""
     return run([PROGRAM, *words], given, **how)
 
 
@@ -95,13 +91,13 @@ def at_terminal(words, typed=b"", **how):
     """A run whose standard error is a terminal, as its standard input where something is typed; and what it says."""
     ours, theirs = pty.openpty()
     os.write(ours, typed)
-    how |= {"stdin": theirs if typed else subprocess.DEVNULL, "stdout": subprocess.PIPE, "stderr": theirs}
+    how.update(stdin=theirs if typed else subprocess.DEVNULL, stdout=subprocess.PIPE, stderr=theirs)
     ran = subprocess.run(words, timeout=60, **how)
     os.write(theirs, b"end")
     text = b""
     while not text.endswith(b"end"):
         text += os.read(ours, 65536)
-    return ran, text.removesuffix(b"end")
+    return ran, text[: -len(b"end")]
 
 
 def drawn(text):
@@ -118,7 +114,7 @@ def drawn(text):
 
 def is_alive(pid):
     """Whether a process of this number is there and has not ended."""
-    with contextlib.suppress(OSError), open(f"/proc/{pid}/stat", encoding="ascii", errors="replace") as file:
+    with contextlib.suppress(OSError), open(f"/proc/{pid}/stat", errors="replace") as file:
         return file.read().rsplit(")", 1)[1].split()[0] != "Z"
     return False
 
@@ -135,7 +131,6 @@ def needs_speed(test):
 
 
 def needs(*tools):
-    """Leaves out a test, or a class of tests, where a tool is not installed."""
     lacking = [it for it in tools if not shutil.which(it)]
     return unittest.skipIf(lacking, f"not installed: {' '.join(lacking)}")
 
@@ -154,7 +149,6 @@ def kit():
 
 
 def load_tests_of_table(case, rows, judge):
-    """Gives a class a test for each row of a table, by its name."""
     for name, row in rows.items():
         setattr(case, f"test_{name}", lambda self, row=row: judge(self, row))
 

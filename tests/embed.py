@@ -1,20 +1,5 @@
 #!/usr/bin/env python3
-"""Builds the static library, and looks at what C and Python see of it: tests/embed.py [PROGRAM] [-k WORD]
-
-include/pgboard.h declares the exports of crates/pgboard_c, and is C89 and C++. The programs of tests/embed
-use the static library:
-
-- test.c goes through each answer by its name, also with sanitizers, and test.cpp through include/pgboard.hpp;
-- board.c goes through the calls on boards, also under valgrind, and has eight threads post on one board,
-  which is replayed on a plain one (plain_board.py);
-- advance.c finishes boards part by part, and board_texts.c has boards of texts;
-- large.c has games of many vertices: limits of time, of stack, of steps and of memory.
-
-The C programs of docs/C.md, built by the commands there, print what it says there. The tests of
-bindings/python pass under each Python that is installed.
-
-PGBOARD_ARCHIVE names another static library to test, which is not made here.
-"""
+"""Builds the static library, and looks at what C and Python see of it: tests/embed.py [PROGRAM] [-k WORD]"""
 
 import collections
 import itertools
@@ -110,7 +95,6 @@ def choice_of(word):
 
 
 def entry_of(row):
-    """The worker, the player, how many rows were claimed, and the rows."""
     places = row[4:]
     return *map(int, row[:3]), list(zip(map(int, places[::2]), map(choice_of, places[1::2])))
 
@@ -127,7 +111,6 @@ def pythons():
 
 
 def run(words, given=b""):
-    """Runs a command at the top, or a compiler."""
     status, out, err = common.run(words, given, timeout=300, cwd=common.ROOT)
     return status, out.decode(), err.decode()
 
@@ -144,7 +127,6 @@ def build_archive(folder):
 
 
 def build_shared(folder):
-    """The same as a shared library, in a folder. Returns its path."""
     shared = folder / "libpgboard.so"
     status, _, err = run(
         [
@@ -189,7 +171,7 @@ class Embed(unittest.TestCase):
 
     def test_the_header_declares_what_the_crate_exports(self):
         declared = re.findall(r"(?ms)^(?:uint32_t|uint64_t|void) (\w+)\([^;]*;", HEADER)
-        crate = "".join(path.read_text(encoding="utf-8") for path in (CRATE / "src").glob("*.rt"))
+        crate = "".join(path.read_text() for path in (CRATE / "src").glob("*.rt"))
         self.assertEqual(sorted(declared), sorted(re.findall(r'pub extern "C" fn (\w+)', crate)))
         self.assertEqual(len(declared), 23)
 
@@ -223,7 +205,7 @@ class Embed(unittest.TestCase):
     def test_the_header_in_c_and_cpp(self):
         source = self.folder / "header.c"
         source.write_text(
-            '#include "pgboard.h"\nint main(void) { return pgboard_strerror(0) == 0; }\n', encoding="ascii"
+            '#include "pgboard.h"\nint main(void) { return pgboard_strerror(0) == 0; }\n'
         )
         flags = {"-xc": ["c89", "c99", "c11", "c17"], "-xc++": ["c++98", "c++11", "c++17", "c++20"]}
         for compiler in common.installed("gcc", "clang"):
@@ -245,7 +227,7 @@ class Embed(unittest.TestCase):
             "if (pgboard_solve(0, results, report)) f(game + 1, results, report);": "null",
         }
         for call, word in wrong.items():
-            (self.folder / "warned.c").write_text(head + "{\n" + call + "\n}\n", encoding="ascii")
+            (self.folder / "warned.c").write_text(head + "{\n" + call + "\n}\n")
             status, _, err = run(
                 ["cc", "-std=c89", *WARNINGS, "-c", self.folder / "warned.c", "-o", self.folder / "warned.o"]
             )
@@ -338,14 +320,14 @@ class Embed(unittest.TestCase):
         for name in ("crates", "include"):
             (self.folder / name).symlink_to((common.PROVED if name == "crates" else common.ROOT) / name)
         for program, printed in programs:
-            (self.folder / "embed.c").write_text(program, encoding="utf-8")
+            (self.folder / "embed.c").write_text(program)
             self.built([*FLAGS, "-fsyntax-only", f"{self.folder}/embed.c"])
             status, out, err = common.run(["bash", "-e", "-c", commands], timeout=3000, cwd=self.folder)
             self.assertEqual(status, 0, out + err)
             self.assertEqual(run([f"{self.folder}/embed"]), (0, printed, ""))
 
     def test_bindings_python(self):
-        env = {**os.environ, "PGBOARD_LIBRARY": str(build_shared(self.folder))}
+        env = {**os.environ, "PGBOARD_LIBRARY": str(build_shared(self.folder)), "PGBOARD_TESTED": str(common.PROGRAM)}
         folder = common.ROOT / "bindings" / "python"
         for python, name in itertools.product(pythons(), sorted(it.name for it in folder.glob("test_*.py"))):
             with self.subTest(python, name=name):

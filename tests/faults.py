@@ -1,9 +1,5 @@
 #!/usr/bin/env python3
-"""Tests what repeats tools/faults.txt, the table of the library's answers: tests/faults.py [-k WORD]
-
-The header and Python's exceptions are as tools/faults makes them. The definitions that the contracts of
-crates/pgboard_c cite have the numbers, the fields and the texts of the table.
-"""
+"""Tests what repeats tools/faults.txt, the table of the library's answers: tests/faults.py [-k WORD]"""
 
 import re
 import runpy
@@ -42,7 +38,7 @@ def defined_others():
     for group, name, number in re.findall(r"(?m)^(array|structure)_number \w+\.(\w+) = (\d+)$", NUMBERS):
         yield name_of(group, name), int(number)
     for path in common.ROOT.glob("crates/*/specs/*.antt"):
-        found = re.findall(rf"(?m)^({'|'.join(LIMITS)}) = (\d+)$", path.read_text(encoding="utf-8"))
+        found = re.findall(rf"(?m)^({'|'.join(LIMITS)}) = (\d+)$", path.read_text())
         yield from ((name.upper(), int(number)) for name, number in found)
 
 

@@ -1,9 +1,5 @@
 #!/usr/bin/env python3
-"""Tests what repeats the program's help: tests/help.py [PROGRAM] [-k WORD]
-
-The man page is as tools/help makes it. What three shells offer after some words is what the help lists, and a
-file where that is wanted; zsh runs with a plain `_arguments`.
-"""
+"""Tests what repeats the program's help: tests/help.py [PROGRAM] [-k WORD]"""
 
 import os
 import re
@@ -88,6 +84,13 @@ class Help(unittest.TestCase):
                     status, out, err = common.run([*SHELLS[shell], *words], cwd=folder, env=env)
                     said = {line.partition("\t")[0] for line in out.decode().split("\n")}
                     self.assertEqual((status, err, said - {""}), (0, b"", wanted))
+
+    def test_the_word_before_is_no_script(self):
+        folder = common.make_folder(self)
+        words = ["pgboard", "solve", "--x/y/;e touch made\ns/z", ""]
+        for shell in common.installed(*SHELLS):
+            common.run([*SHELLS[shell], common.PROGRAM, *words[1:]], cwd=folder)
+            self.assertEqual(list(folder.iterdir()), [], shell)
 
     def test_zsh_reads_its_file_for_this_command(self):
         self.assertEqual(common.text_of("completions/_pgboard").splitlines()[0], "#compdef pgboard")

@@ -1,9 +1,5 @@
 #!/usr/bin/env python3
-"""Has rt prove and build the C library in a copy of the crates: tests/library.py FOLDER
-
-It does so over the libraries that `rt ci` has proved. The gate runs it while `rt ci` is still at work, once for
-embed.py, boards.py and package.py. Its last line counts it as one test.
-"""
+"""Has rt prove and build the C library in a copy of the crates: tests/library.py FOLDER"""
 
 import contextlib
 import os
@@ -50,11 +46,10 @@ def take_as_built(tree, above):
             if proved.is_dir() and not library.exists():
                 shutil.copytree(proved, library)
             if is_of_this_gate(crate, library / f"{crate.name}.rlib") and not (library / "stamp").exists():
-                (library / "stamp").write_text(crate.stamp(), encoding="utf-8")
+                (library / "stamp").write_text(crate.stamp())
 
 
 def build(tree):
-    """Proves and builds the static library of a tree, and returns its path."""
     take_as_built(tree, "pgboard_c")
     crate = pathlib.Path(tree, "crates", "pgboard_c")
     status, out, err = common.run(["rt", "lib", "--jobs", "1"], timeout=3000, cwd=crate)
@@ -63,7 +58,6 @@ def build(tree):
 
 
 def built():
-    """The static library: that of the gate, or one that is built now."""
     if common.PROVED == common.ROOT:
         return build(common.ROOT)
     return common.PROVED / "crates" / "pgboard_c" / "out" / "libpgboard_c.a"

@@ -1,11 +1,5 @@
 #!/usr/bin/env python3
-"""Tests of examples/modelcheck.py: tests/modelcheck.py [PROGRAM] [-k WORD]
-
-Its answers are compared with an evaluation of formulas by iterating sets, on random models, and with known
-answers on models of protocols. The evaluation takes nothing of the script: what a regular modality goes
-along is a relation of states, of which compositions and closures are taken. How operators bind is shown by
-brackets. The rest is evidence, games and pictures.
-"""
+"""Tests of examples/modelcheck.py: tests/modelcheck.py [PROGRAM] [-k WORD]"""
 
 import dataclasses
 import itertools
@@ -44,8 +38,6 @@ ACTIONS = {
 
 @dataclasses.dataclass
 class Model:
-    """A labelled transition system with states from 0."""
-
     first: int
     count: int
     transitions: list
@@ -60,7 +52,6 @@ class Model:
         return f"des ({self.first}, {len(self.transitions)}, {self.count})\n" + "".join(rows)
 
     def part(self, text):
-        """The model that a text of this form has, with the same states."""
         found = re.findall(r'(?m)^\((\d+), "([^"]*)", (\d+)\)$', text)
         return Model(self.first, self.count, [(int(state), label, int(to)) for state, label, to in found])
 
@@ -112,7 +103,6 @@ class Regular:
     labels: set = None
 
     def inside(self, binds, chance):
-        """The text where something binds so strongly around it."""
         return f"({self.text})" if self.binds < binds or chance.random() < 0.1 else self.text
 
 
@@ -130,7 +120,6 @@ def labelled(text, binds, labels):
 
 
 def next_actions(chance, depth):
-    """A random set of actions."""
     if depth == 0 or chance.random() < 0.5:
         text = chance.choice([*ACTIONS, "a", "a"])
         return labelled(text, NOT, ACTIONS[text])
@@ -150,7 +139,6 @@ def next_actions(chance, depth):
 
 
 def next_regular(chance, depth):
-    """A random regular formula."""
     if depth == 0 or chance.random() < 0.2:
         return next_actions(chance, 2)
     left = next_regular(chance, depth - 1)
@@ -175,7 +163,6 @@ def after(left, right):
 
 
 def closed(pairs):
-    """The least transitive relation with these pairs."""
     while True:
         more = pairs | after(pairs, pairs)
         if more == pairs:
@@ -210,7 +197,6 @@ def fixed_point(kind, name, inner):
 
 
 def drawn(seed):
-    """A random model and a formula, which mostly holds in some states and not in others."""
     chance = random.Random(seed)
     count = chance.randint(2, 9)
     rows = {
@@ -269,10 +255,9 @@ class ModelCheck(scripts.Use, unittest.TestCase):
         self.model, self.evidence, self.game = (
             self.folder / it for it in ("model.aut", "evidence.aut", "game.pg")
         )
-        self.model.write_text(scripts.MODEL, encoding="ascii")
+        self.model.write_text(scripts.MODEL)
 
     def check(self, path, formula, expected, *words):
-        """That the script says so of a formula."""
         self.assertEqual(
             self.call(path, formula, *words), (int(not expected), f"{str(expected).lower()}\n"), formula
         )
@@ -282,12 +267,12 @@ class ModelCheck(scripts.Use, unittest.TestCase):
         for seed in range(500):
             with self.subTest(seed=seed):
                 model, formula = drawn(seed)
-                self.model.write_text(model.text, encoding="ascii")
+                self.model.write_text(model.text)
                 answers.append(model.first in formula.holds(model, {}))
                 self.check(self.model, formula.text, answers[-1], "--evidence", self.evidence)
                 # the evidence is a part of the model, from its first state on, in which the answer is the
                 # same
-                text = self.evidence.read_text(encoding="ascii")
+                text = self.evidence.read_text()
                 part = model.part(text)
                 self.assertEqual(text, part.text)
                 self.assertLessEqual(set(part.transitions), set(model.transitions))
@@ -320,8 +305,7 @@ class ModelCheck(scripts.Use, unittest.TestCase):
         self.assertEqual(after(steps, steps), {(v, v + 2) for v in range(5)})
 
     def test_a_comment_in_an_action(self):
-        """A comment is no part of an action, nor of its data."""
-        self.model.write_text('des (0, 2, 2)\n(0, "a", 1)\n(1, "c(1)|b", 0)\n', encoding="ascii")
+        self.model.write_text('des (0, 2, 2)\n(0, "a", 1)\n(1, "c(1)|b", 0)\n')
         for formula, expected in {
             "[true*.(a % the request\n)] false": False,
             "<a % one ] two\n> true": True,
@@ -333,7 +317,6 @@ class ModelCheck(scripts.Use, unittest.TestCase):
             self.check(self.model, formula, expected)
 
     def test_labels(self):
-        """An action takes the labels that differ in blanks beside signs, and in the order of what | joins."""
         labels = [
             "a",
             "a b",
@@ -364,14 +347,13 @@ class ModelCheck(scripts.Use, unittest.TestCase):
             "true && !false": labels,
         }.items():
             for at, label in enumerate(labels):
-                self.model.write_text(f'des (0, 1, 1)\n(0, "{label}", 0)\n', encoding="ascii")
+                self.model.write_text(f'des (0, 1, 1)\n(0, "{label}", 0)\n')
                 with self.subTest(formula, label=label):
                     self.check(self.model, f"<{formula}> true", label in taken)
 
     def test_many_labels_and_actions(self):
-        """Each label and each action is spelled once, and labels are not compared with each action."""
         count, actions, module = 4_000, 60, sys.modules["lib.formulas"]
-        self.model.write_text(Model(0, 1, [(0, f"a({at})", 0) for at in range(count)]).text, encoding="ascii")
+        self.model.write_text(Model(0, 1, [(0, f"a({at})", 0) for at in range(count)]).text)
         formula = " || ".join(f"<a({at}) && a({at + 1})> true" for at in range(actions // 2))
         calls, spelled = [], module.spelled
         with unittest.mock.patch.object(module, "spelled", lambda text: calls.append(text) or spelled(text)):
@@ -403,17 +385,16 @@ class ModelCheck(scripts.Use, unittest.TestCase):
                 )
 
     def test_tau_where_the_model_has_i(self):
-        """A warning says so where a formula names tau, unless the model has that label too."""
         warning = "modelcheck: the model has no label tau: its label i may be meant"
         for labels, formula, is_warned in (
             ("i", "<tau> true", True),
             ("ia", "[a] true && [!tau] false", False),
             ("a", "<tau> true", False),
         ):
-            self.model.write_text(Model(0, 1, [(0, it, 0) for it in labels]).text, encoding="ascii")
+            self.model.write_text(Model(0, 1, [(0, it, 0) for it in labels]).text)
             err = scripts.called(self.script, [self.model, formula])[2]
             self.assertEqual(err.splitlines()[1:], [warning] * is_warned)
-        self.model.write_text(Model(0, 1, [(0, "i", 0), (0, "tau", 0)]).text, encoding="ascii")
+        self.model.write_text(Model(0, 1, [(0, "i", 0), (0, "tau", 0)]).text)
         self.assertEqual(self.run_script(self.model, "<tau> true")[1:], ("true\n", SIZE.format(2, 2)))
 
     def test_the_name_of_a_formulas_file(self):
@@ -444,7 +425,7 @@ class ModelCheck(scripts.Use, unittest.TestCase):
             (state, chance.choice("abc"), (state + step()) % count) for state in range(count) for _ in "12"
         ]
         model = Model(0, count, moves)
-        self.model.write_text(model.text, encoding="ascii")
+        self.model.write_text(model.text)
         x, y = (Formula(it, lambda _, sets, it=it: sets[it]) for it in "XY")
         move = lambda is_some, labels, inner: modality(
             is_some, labelled(" || ".join(labels), NOT, set(labels)), inner
@@ -453,7 +434,7 @@ class ModelCheck(scripts.Use, unittest.TestCase):
         body = joined(joined(left, "&&", move(True, "abc", y)), "||", move(False, "c", x))
         formula = fixed_point("nu", "X", fixed_point("mu", "Y", body))
         self.check(self.model, formula.text, 0 in formula.holds(model, {}), "--game", self.game)
-        self.assertGreaterEqual(self.game.read_text(encoding="utf-8").count("\n"), 100_000)
+        self.assertGreaterEqual(self.game.read_text().count("\n"), 100_000)
 
     def test_priorities_by_alternation(self):
         for formula, greatest in {
@@ -472,7 +453,7 @@ class ModelCheck(scripts.Use, unittest.TestCase):
         }.items():
             with self.subTest(formula):
                 self.call(self.model, formula, "--game", self.game)
-                lines = self.game.read_text(encoding="utf-8").splitlines()[2:]
+                lines = self.game.read_text().splitlines()[2:]
                 self.assertEqual(max(int(line.split()[1]) for line in lines), greatest)
 
     def test_game_of_the_benchmarks(self):
@@ -491,7 +472,7 @@ class ModelCheck(scripts.Use, unittest.TestCase):
             '7 0 1 7 "1: [!a] false"',
         ]
         self.assertEqual(
-            self.game.read_text(encoding="utf-8"),
+            self.game.read_text(),
             "parity 7;\nstart 0;\n" + "".join(f"{it};\n" for it in rows),
         )
 
@@ -533,7 +514,6 @@ class ModelCheck(scripts.Use, unittest.TestCase):
         )
 
     def test_progress_on_a_terminal(self):
-        """The line of progress is replaced, and the size and the answer stay; a pipe gets no progress."""
         command = [sys.executable, "-B", scripts.EXAMPLES / "modelcheck.py", self.model, "[true*] <a> true"]
         ran, said = common.at_terminal(
             command, env={**os.environ, "PGBOARD": shlex.quote(str(common.PROGRAM))}
@@ -553,7 +533,7 @@ class ModelCheck(scripts.Use, unittest.TestCase):
 
     def test_many_blanks_take_little_time(self):
         def refuse(count):
-            self.model.write_text(f"des (0, 1, 1)\n(0,{' ' * count}x\n", encoding="ascii")
+            self.model.write_text(f"des (0, 1, 1)\n(0,{' ' * count}x\n")
             with self.assertRaisesRegex(self.script.Refused, ":2:1: not of the form"):
                 self.call(self.model, "true")
 
@@ -568,7 +548,7 @@ class ModelCheck(scripts.Use, unittest.TestCase):
                 len(self.script.Formula("formula", f" {operator} ".join(["true"] * 1500)).parts), 2999
             )
         self.model.write_text(
-            Model(0, 9, [(state, "a", state + 1) for state in range(8)]).text, encoding="ascii"
+            Model(0, 9, [(state, "a", state + 1) for state in range(8)]).text
         )
         with unittest.mock.patch.object(self.script, "MOST_VERTICES", 18):
             self.check(self.model, "nu X. [a] X", True)
@@ -576,15 +556,14 @@ class ModelCheck(scripts.Use, unittest.TestCase):
             with self.assertRaisesRegex(self.script.Refused, "the game has more than 17 vertices"):
                 self.call(self.model, "nu X. [a] X")
         self.model.write_text(
-            Model(0, 201, [(state, "a", state + 1) for state in range(200)]).text, encoding="ascii"
+            Model(0, 201, [(state, "a", state + 1) for state in range(200)]).text
         )
         with self.assertRaisesRegex(self.script.Refused, "201 vertices are too many"):
             self.call(self.model, "mu X. [a] X", "--picture", self.folder / "p.dot")
 
     def test_evidence_of_one_move(self):
-        """The winner needs one of the transitions to the same state, and the other player may take each."""
         model = Model(0, 2, [(0, "a", 1), (0, "b", 1)])
-        self.model.write_text(model.text, encoding="ascii")
+        self.model.write_text(model.text)
         for formula, labels in (
             ("<true> true", "a"),
             ("<b> true", "b"),
@@ -592,7 +571,7 @@ class ModelCheck(scripts.Use, unittest.TestCase):
             ("[b] true", "b"),
         ):
             self.check(self.model, formula, True, "--evidence", self.evidence)
-            found = model.part(self.evidence.read_text(encoding="ascii")).transitions
+            found = model.part(self.evidence.read_text()).transitions
             self.assertEqual(sorted(found), [(0, label, 1) for label in labels])
 
     @common.needs("dot")
@@ -603,11 +582,11 @@ class ModelCheck(scripts.Use, unittest.TestCase):
         words = [MODELS / "mutex.aut", WAITING]
         self.check(*words, False, "--evidence", self.evidence)
         cycle = [(0, "ask_1", 1), (1, "ask_2", 3), (3, "enter_2", 7), (7, "leave_2", 1)]
-        self.assertEqual(self.evidence.read_text(encoding="ascii"), Model(0, 8, cycle).text)
+        self.assertEqual(self.evidence.read_text(), Model(0, 8, cycle).text)
         for end in ("dot", "svg"):
             picture = self.folder / f"waiting.{end}"
             self.call(*words, "--picture", picture)
-            scripts.check_kept(self, picture.name, picture.read_text(encoding="utf-8"))
+            scripts.check_kept(self, picture.name, picture.read_text())
 
 
 if __name__ == "__main__":

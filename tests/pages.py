@@ -1,10 +1,5 @@
 #!/usr/bin/env python3
-"""Compares the pages with the program and the sources: tests/pages.py [PROGRAM] [-k WORD]
-
-Commands on the pages print what the pages show, links lead somewhere, each fault line is in docs/FAULTS.md,
-synopsis and man page say what the program's help says, and code on the pages is in a test. pyflakes finds
-nothing in the Python files.
-"""
+"""Compares the pages with the program and the sources: tests/pages.py [PROGRAM] [-k WORD]"""
 
 import os
 import re
@@ -24,13 +19,11 @@ LINK = re.compile(r"\[[^\]]*\]\(([^)\s]+)\)")
 
 
 def pages(*patterns):
-    """The pages of these patterns, as paths from the repository's top."""
     every = {it.relative_to(common.ROOT) for pattern in patterns for it in common.ROOT.glob(pattern)}
     return [str(it) for it in sorted(every) if not {".git", "out"} & set(it.parts)]
 
 
 def prose(page):
-    """A page without its blocks of code."""
     return BLOCK.sub("", common.text_of(page))
 
 
@@ -55,13 +48,11 @@ def examples(text):
 
 
 def c_programs(text):
-    """The C programs of a page, each with what it prints, and the commands that build one of `embed.c`."""
     programs = re.findall(r"(?ms)^```c\n(.*?)^```$.*?^```text\n(.*?)^```$", text)
     return programs, next(it[2] for it in BLOCK.finditer(text) if it[1] == "sh" and " embed.c " in it[2])
 
 
 def anchors(page):
-    """The headings of a page, as links name them."""
     heads = re.findall(r"(?m)^#+ +(.*)$", prose(page))
     return {re.sub(r"[^\w\- ]", "", it.lower()).replace(" ", "-") for it in heads}
 
@@ -180,7 +171,6 @@ def help_of(*words):
 
 
 def flags_of(text):
-    """The flags that a help lists, in order, each with the name of its value or nothing."""
     listed = re.findall(r"(?m)^ +(?:-\w, )?--([a-z][a-z-]*)(?: <(\w+)>)?", text)
     return [f"--{flag} {value}".strip() for flag, value in listed if flag not in ("help", "version")]
 
@@ -190,7 +180,6 @@ def statuses_of(text):
 
 
 def line_of(command, text):
-    """The line of a synopsis, by the help of a command or of the program."""
     files = re.findall(r"<[A-Z]+>|\[[A-Z]+\]", re.search(r"(?m)^Usage: pgboard(.*)$", text)[1])
     files = [it.strip("<>") for it in files if it not in ("[OPTIONS]", "[COMMAND]")]
     return " ".join(filter(None, ["pgboard", command, *(f"[{it}]" for it in flags_of(text)), *files]))
@@ -212,7 +201,6 @@ def man_page():
 
 
 def synopsis_of(page):
-    """The lines of a page's synopsis, without what they say of each command."""
     if page.endswith(".1"):
         lines = " ".join(man_page()["SYNOPSIS"].split()).split(" .br ")
         return set(lines) - {"pgboard [COMMAND] --help"}
@@ -222,7 +210,6 @@ def synopsis_of(page):
 
 
 def said_by(page):
-    """The commands, flags and statuses that a page names."""
     if page.endswith(".1"):
         parts = man_page()
         commands = re.findall(r"(?m)^\.TP\n([a-z]+)", re.sub(r"(?m)^\.BI ", "", parts["COMMANDS"]))
@@ -237,8 +224,6 @@ def said_by(page):
 
 
 class HelpAgrees(unittest.TestCase):
-    """The program's help is the source; the pages have the same commands, flags, files and statuses."""
-
     @classmethod
     def setUpClass(cls):
         listed = re.search(r"(?ms)^Commands:\n(.*?)\n\n", help_of("--help"))[1]
@@ -326,12 +311,10 @@ class HelpAgrees(unittest.TestCase):
 
 
 def lines_of(text):
-    """The lines of code, without indentation and without empty lines."""
     return [it.strip() for it in text.splitlines() if it.strip()]
 
 
 def is_in(code, file):
-    """Whether the lines of code are in a file, one after another; `use` lines may be anywhere."""
     lines, there = lines_of(code), "\n".join(["", *lines_of(file), ""])
     uses = [it for it in lines if re.match(r"(?:ghost )?use ", it)]
     wanted = [it for it in lines if it not in uses]
@@ -347,7 +330,6 @@ class Judge(unittest.TestCase):
 
 
 def tests_of(crate):
-    """The unit tests of a crate: in itself, in a crate of its own or in the folder of its name in another."""
     name = crate.removeprefix("pg_")
     forms = [f"{crate}/src/**/tests*.rt", f"{crate}/src/**/tests/**/*.rt", f"{crate}_tests/src/tests/*.rt"]
     forms += [f"*_tests/src/tests/{name}.rt", f"*_tests/src/tests/{name}/**/*.rt"]
@@ -356,7 +338,6 @@ def tests_of(crate):
 
 
 def is_run(page, code):
-    """Whether a block of a page is an example, or consists of examples."""
     whole = [text for _, *texts in examples(common.text_of(page)) for text in texts]
     return code in whole or not PAIR.sub("", code)
 
@@ -391,7 +372,6 @@ class Code(unittest.TestCase):
 
 
 def scripts():
-    """The Python files, also those without an ending."""
     paths = [common.ROOT / it for it in pages("*", "tools/*", "bench/**/*")]
     named = [it for it in paths if it.is_file() and it.read_bytes().startswith(b"#!/usr/bin/env python3\n")]
     return sorted({*pages("**/*.py"), *(str(it.relative_to(common.ROOT)) for it in named)})

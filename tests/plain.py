@@ -29,7 +29,6 @@ def demand(holds, why):
 
 
 def tokens(text):
-    """Returns the tokens: letter, place, bytes."""
     found = []
     for token in TOKEN.finditer(text):
         letter, at = token.lastgroup, token.start()
@@ -50,7 +49,6 @@ def demand_syntax(found, length, whole):
 
 
 def lines_of(text, whole, headers):
-    """The lines of a text, each a list of tokens, without the header lines."""
     found = tokens(text)
     demand_syntax(found, len(text), whole)
     for token in found:
@@ -96,7 +94,6 @@ def known_of(game, text):
 
 
 def solution_of(game, text):
-    """The same of a text that has to name all vertices."""
     solution = known_of(game, text)
     for id in sorted(game):
         demand(id in solution, f"vertex {id}: not written")
@@ -104,7 +101,6 @@ def solution_of(game, text):
 
 
 def kept(game, solution, id):
-    """The edges that the winner's choices leave at a vertex."""
     _, owner, successors = game[id]
     winner, choice = solution[id]
     return {choice} if owner == winner else successors
@@ -127,7 +123,6 @@ def is_greatest_on_a_closed_walk(game, solution, id):
 
 
 def faults(game, solution):
-    """The faults of a solution in order: by kind, then by identifier."""
     ids = sorted(game)
     chosen = [id for id in ids if game[id][1] == solution[id][0]]
     yield from (f"no choice at {id}" for id in chosen if solution[id][1] is None)
@@ -165,7 +160,6 @@ def known_faults(game, known):
 
 
 def attracted(game, target, player):
-    """The attractor of a set: a step at a time until nothing comes."""
     while True:
         more = {
             id
@@ -179,7 +173,7 @@ def attracted(game, target, player):
 
 
 def ladder(levels):
-    """A game on which the recursion takes time exponential in the levels (Friedmann 2011)."""
+    """A game on which a recursion that keeps nothing takes time exponential in the levels (Friedmann 2011)."""
     rows = {}
     for i in range(1, levels + 1):
         rows["a", i] = 1 - i % 2, 1 - i % 2, [("b", i), ("d", i - 1)]
@@ -201,22 +195,88 @@ def part(game, vertices):
     }
 
 
-def recursion(game):
-    """The winners by Zielonka's recursion (1998), and how many subgames that have a vertex it begins. It
-    sets aside what the greatest priorities of one parity attract.
-    """
+def winners(game):
+    """The winners by Zielonka's recursion (1998), without their choices."""
     if not game:
-        return {}, 0
-    player = max(priority for priority, _, _ in game.values()) % 2
-    bad = max((priority for priority, _, _ in game.values() if priority % 2 != player), default=-1)
-    set_aside = attracted(game, {id for id in game if game[id][0] > bad}, player)
-    winners, steps = recursion(part(game, game.keys() - set_aside))
-    lost = {id for id, winner in winners.items() if winner != player}
+        return {}
+    player, greatest = begun(game, game.keys())
+    set_aside = attracted(game, greatest, player)
+    found = winners(part(game, game.keys() - set_aside))
+    lost = {id for id, winner in found.items() if winner != player}
     if not lost:
-        return dict.fromkeys(game, player), steps + 1
+        return dict.fromkeys(game, player)
     lost = attracted(game, lost, 1 - player)
-    winners, more = recursion(part(game, game.keys() - lost))
-    return {**winners, **dict.fromkeys(lost, 1 - player)}, steps + more + 1
+    found = winners(part(game, game.keys() - lost))
+    return {**found, **dict.fromkeys(lost, 1 - player)}
+
+
+def begun(game, vertices):
+    """The player of the greatest priority, and its vertices."""
+    top = max(game[id][0] for id in vertices)
+    return top % 2, {id for id in vertices if game[id][0] == top}
+
+
+class Recursion:
+    """The recursion that keeps what it has won (Lapauw, Bruynooghe and Denecker 2020): the winners, the
+    choices of those who own their vertices, and how many subgames that have a vertex it begins.
+    """
+
+    def __init__(self, game):
+        self.game, self.choices, self.steps = game, {}, 0
+        won = self.solve(set(game))
+        self.winners = {id: player for player in (0, 1) for id in won[player]}
+
+    def attract(self, inside, target, player):
+        """The attractor of the target among these vertices, with the choices that lead to it."""
+        while True:
+            more = {
+                id
+                for id in inside - target
+                if (any if self.game[id][1] == player else all)(
+                    to in target for to in self.game[id][2] & inside
+                )
+            }
+            if not more:
+                return target
+            self.choices.update({id: min(self.game[id][2] & target) for id in more})
+            target = target | more
+
+    def solve(self, active):
+        """What each player wins in a subgame."""
+        won = set(), set()
+        while active:
+            self.steps += 1
+            player, greatest = begun(self.game, active)
+            self.choices.update({id: min(self.game[id][2] & active) for id in greatest})
+            aside = self.attract(active, greatest, player)
+            active, kept = active - aside, set()
+            while greatest:
+                found = self.solve(active)
+                kept = kept | found[player]
+                if not found[1 - player]:
+                    active, kept, greatest = set(), kept | aside, set()
+                else:
+                    lost = self.attract(aside | kept | found[1 - player], found[1 - player], 1 - player)
+                    won[1 - player].update(lost)
+                    aside, kept, greatest, active = self.taken_back(aside, kept - lost, greatest, lost, player)
+            won[player].update(kept)
+        return won
+
+    def taken_back(self, aside, kept, greatest, lost, player):
+        """What is set aside, kept, greatest and active after the opponent has won the lost vertices."""
+        greatest, left = greatest - lost, aside - lost
+        inside = left | kept
+        self.choices.update({id: min(self.game[id][2] & inside) for id in greatest})
+        aside = self.attract(inside, greatest, player) & left
+        active = left - aside
+        changed = active | lost
+        while more := {id for id in kept if self.kept_edges(id, player) & changed}:
+            kept, active, changed = kept - more, active | more, changed | more
+        back = self.attract(active | kept, kept, player)
+        return aside, back, greatest, active - back
+
+    def kept_edges(self, id, player):
+        return {self.choices[id]} if self.game[id][1] == player else self.game[id][2]
 
 
 def lines_of_rows(head, rows):
@@ -239,13 +299,10 @@ def written_solution(game, solution):
 
 
 def refused(text, why):
-    """The answer that refuses a text, the game or the solution: status, standard output and standard error.
-    """
     return 3, b"", f"pgboard: {text}: {why}\n".encode()
 
 
 def tidied(text):
-    """The answer of `tidy`."""
     try:
         return 0, written_game(game_of(text)).encode(), b""
     except Refused as why:
@@ -253,7 +310,6 @@ def tidied(text):
 
 
 def verified(text, solution_text):
-    """The answer of `verify`, and of a run without a command."""
     try:
         game = game_of(text)
     except Refused as why:
@@ -310,7 +366,6 @@ def trace_fault(game, workers, text):
 
 
 def read_journal(game, workers, text):
-    """Of each worker the sizes of its entries."""
     head, *parts = text.split("entry ")
     entries = [[numbers(line) for line in part.splitlines()] for part in parts]
     solution, sizes = {}, {worker: [] for worker in range(workers + 1)}

@@ -29,7 +29,6 @@ class Board:
         return {v for v, (winner, _) in self.state().items() if winner == player}
 
     def rest(self, rows):
-        """The rows of the vertices that are unsettled."""
         state = self.state()
         return [row for row in rows if row[0] not in state]
 

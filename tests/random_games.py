@@ -1,10 +1,7 @@
 #!/usr/bin/env python3
 """Compares a built program with plain definitions: tests/random_games.py [PROGRAM] [--count N] [--seed S]
 
-On small random games the answers of `tidy` and `verify` are those of plain.py, byte by byte, also for texts
-with random damage. They are the comparator's too, where bench.py has built it. What `solve` and `trace`
-write is judged by the definitions. Parts of a solution, with a fault or without, are handed in as known. The
-same seed gives the same games.
+The same seed gives the same games.
 """
 
 import argparse
@@ -70,7 +67,6 @@ def blank(chance, needed=False):
 
 
 def header(chance, word, likely):
-    """A header line, or nothing."""
     return (
         b"".join([word, blank(chance), number(chance, chance.randrange(99)), b";", blank(chance)])
         if chance.random() < likely
@@ -79,7 +75,6 @@ def header(chance, word, likely):
 
 
 def straight_game_text(chance, game):
-    """A text of the game with single separators; lines and rows may be in order, or rows have repeats."""
     lines = [chance.choice([b"", b"parity %d;\n" % max(game)])]
     for id in sorted(game) if chance.random() < 0.5 else game:
         priority, owner, successors = game[id]
@@ -91,7 +86,6 @@ def straight_game_text(chance, game):
 
 
 def random_game_text(chance, game):
-    """Some text of the game, half of them in any spelling."""
     if chance.random() < 0.5:
         return straight_game_text(chance, game)
     text = [header(chance, b"parity", 0.4), header(chance, b"start", 0.4)]
@@ -127,7 +121,6 @@ def random_solution_text(chance, solution):
 
 
 def damaged(chance, text):
-    """The text with a few bytes left out, put in or cut off."""
     for _ in range(chance.randint(1, 2)):
         at = chance.randint(0, len(text))
         piece, count = chance.choice(
@@ -138,7 +131,6 @@ def damaged(chance, text):
 
 
 def random_solution(chance, game):
-    """Some winners and choices; the choices are mostly successors."""
     one, every = chance.random() < 0.4, chance.randrange(2)
     solution = {}
     for id in game:
@@ -174,12 +166,10 @@ def best_region(game, player):
 
 
 def some_of(chance, solution):
-    """Some lines of a solution."""
     return {id: row for id, row in solution.items() if chance.random() < 0.6}
 
 
 def with_a_fault(chance, game, known):
-    """What is known, with one line changed: another winner, another choice or none."""
     if not known:
         return known
     id = chance.choice(list(known))
@@ -197,8 +187,6 @@ def with_a_fault(chance, game, known):
 
 
 class Checks:
-    """The checks of one random game, in a folder."""
-
     def __init__(self, seed, folder):
         self.chance, self.folder = random.Random(seed), pathlib.Path(folder)
         self.game = random_game(self.chance)
@@ -208,7 +196,6 @@ class Checks:
         return common.run([path or common.PROGRAM, *words], given, cwd=self.folder)
 
     def differs(self, words, given, wanted):
-        """What differs from the wanted answer of the program and of the comparator."""
         for path in [common.PROGRAM, *[COMPARATOR] * (common.IS_GATE or COMPARATOR.exists())]:
             got = self.run(words, given, path)
             if got != wanted:
@@ -233,7 +220,6 @@ class Checks:
         return self.differs(["solve", "--winners"], self.text, (0, winners, b""))
 
     def solve_from(self, text):
-        """What is wrong with what the program writes from a text of what is known."""
         (self.folder / "part.sol").write_bytes(text)
         words = [
             "solve",
@@ -282,12 +268,14 @@ class Checks:
         return f"trace --workers {workers} writes {out}: {why}" if why else None
 
     def all(self):
-        """Each check with its name."""
         chance, game = self.chance, self.game
         right, other = right_solution(game), random_solution(chance, game)
         part = some_of(chance, right)
         wrong = random_solution_text(chance, with_a_fault(chance, game, part))
         yield "the definitions", None if plain.verdict(game, right) == "ok\n" else f"{right} of {game}"
+        run = plain.Recursion(game)
+        found = {id: (run.winners[id], run.choices.get(id)) for id in game}
+        yield "the plain recursion", None if plain.verdict(game, found) == "ok\n" else f"{found} of {game}"
         for name, text in (("tidy", self.text), ("tidy of a damaged text", damaged(chance, self.text))):
             yield name, self.differs(["tidy"], text, plain.tidied(text))
         for solution in (right, other):
@@ -314,7 +302,6 @@ class Checks:
 
 
 def judged(number):
-    """The checks of the game of this number, as a list."""
     with tempfile.TemporaryDirectory(prefix="pgboard-random-") as folder:
         return list(Checks(f"{GIVEN.seed} {number}", folder).all())
 
@@ -335,7 +322,6 @@ class RandomGames(unittest.TestCase):
                         self.assertIsNone(why)
 
     def check_trace(self, game, workers):
-        """The trace of a game, by which memory is refused to nobody."""
         status, out, err = common.program(
             "trace", "--workers", str(workers), given=plain.written_game(game).encode(), timeout=300
         )
@@ -382,6 +368,11 @@ class RandomGames(unittest.TestCase):
         self.assertIsNotNone(plain.written_fault(game, text.replace(b"12 0;", b"12 0 3;")))
         chain = {v: (0, 0, {max(v - 1, 0)}) for v in range(7)}
         self.assertEqual(plain.attracted(chain, {0}, 0), {*chain})
+
+    def test_the_steps_that_a_unit_test_counts(self):
+        text = common.text_of("crates/pg_finders_tests/src/tests/finders/bounds.rt")
+        steps = re.search(r"fn a_ladder_of_four_levels_needs_(\d+)_steps", text)[1]
+        self.assertEqual(plain.Recursion(plain.ladder(4)).steps, int(steps))
 
     def test_a_damaged_trace_is_refused(self):
         game = plain.game_of(b"0 2 0 0,1; 1 1 1 1;")

@@ -1,15 +1,5 @@
 #!/usr/bin/env python3
-"""Refuses allocations, starts of threads, reads and writes: tests/refused_calls.py [PROGRAM] [-k WORD]
-
-refuse.c, which is loaded before a program, does the refusing, and measures the memory of a run; it needs cc.
-A run of the built program that is refused memory ends in status 5 with nothing written, or as one with all
-memory may. A start that is refused leaves its worker out. Texts are read, and outputs written, byte by byte
-up to a failure at each place.
-
-The unit tests in a module `memory`, as `rt ci` has built them, make their calls, look after a refusal that
-nothing has changed, and make the call again. So each run passes, or ends because memory was refused to what
-the test needs itself.
-"""
+"""Refuses allocations, starts of threads, reads and writes: tests/refused_calls.py [PROGRAM] [-k WORD]"""
 
 import concurrent.futures
 import itertools
@@ -97,8 +87,6 @@ RUNS = [
 
 
 class Refusing(unittest.TestCase):
-    """Runs programs that are refused what they ask for, in a folder."""
-
     @classmethod
     def setUpClass(cls):
         cls.folder, cls.numbers = common.make_folder(cls), itertools.count()
@@ -130,7 +118,7 @@ class Refusing(unittest.TestCase):
         # (a program that a signal ends leaves no counts)
         return (
             ran,
-            [int(it) for it in counts.read_text(encoding="ascii").split()] if counts.exists() else [0] * 6,
+            [int(it) for it in counts.read_text().split()] if counts.exists() else [0] * 6,
         )
 
     def each(self, kind, numbers, words, given=b"", path=None, **more):
@@ -145,7 +133,6 @@ class Refusing(unittest.TestCase):
 @common.needs_speed
 class Program(Refusing):
     def is_right(self, words, given, whole, got):
-        """Whether an answer is the one with all memory, or another solution or history of the game."""
         if (
             got == whole
             or got[2]
@@ -176,7 +163,6 @@ class Program(Refusing):
                 self.judge_allocations(words.split(), given, status, more)
 
     def test_each_allocation_while_two_workers_run(self):
-        """Neither worker begins before both have started."""
         words = ["solve", "--workers", "2"]
         for game, more in itertools.product(GAMES, ({}, {"REFUSE_FROM": 1})):
             with self.subTest(game, **more):
@@ -193,7 +179,6 @@ class Program(Refusing):
         self.assertIn((0, NOBODY, b""), [got for _, got in answers])
 
     def test_the_workers_that_start_do_all_jobs(self):
-        """Of two or four workers each start in turn is refused, and then all from it on."""
         game = plain.game_of(TWO_SIDED)
         for workers, more in itertools.product((2, 4), ({}, {"REFUSE_FROM": 1})):
             for n, got in self.each(
@@ -396,7 +381,7 @@ class UnitTests(Refusing):
                 (path, it) for it in sorted(set(re.findall(r"\b(?:\w+::)*memory::\w+", (out + err).decode())))
             ]
         written = [
-            it.read_text(encoding="utf-8").count("#[test]")
+            it.read_text().count("#[test]")
             for it in common.ROOT.glob("crates/*_tests/src/tests/*/memory.rt")
         ]
         self.assertEqual((len(listed), bool(listed)), (sum(written), True))

@@ -20,18 +20,15 @@ EXAMPLES = common.ROOT / "examples"
 BINDINGS = common.ROOT / "bindings" / "python"
 # after this folder, which has scripts of the same names
 sys.path += [str(EXAMPLES), str(BINDINGS)]
-from pgboard import command
 from pgboard.command import words as WORDS
 
-# what signals do in a command they do not do here
-command.on_signals = lambda *handler: None
-signal.signal(signal.SIGINT, signal.default_int_handler)
-SIGNALS = [signal.SIGINT, signal.SIGTERM, signal.SIGHUP]
+SIGNALS = [signal.SIGINT, signal.SIGTERM, signal.SIGHUP, signal.SIGQUIT]
 WRITE = "--write" in sys.argv
 # a small model for modelcheck.py, and the parts of a specification for synthesise.py
 MODEL = 'des (0, 2, 2)\n(0, "a", 1)\n(1, "a", 0)\n'
 HEAD = r'HOA: v1\nStart: 0\nAP: 2 "a" "b"\ncontrollable-AP: 1\nAcceptance: 1 Inf(0)\n'
 BODY = r"--BODY--\nState: 0\n[t] 0\n--END--\n"
+HOA_GAME = "HOA: v1\nStart: 0\nAP: 0\nAcceptance: 1 Inf(0)\nspot-state-player: 0\n--BODY--\n"
 # the game of examples/synthesise/arbiter_2_at_once.hoa
 ARENA = """parity 4;
 start 0;
@@ -53,7 +50,6 @@ def rows_of(name):
 
 
 def command_of(name):
-    """The first words of a script of examples/, or of a word of the package's command."""
     script = EXAMPLES / f"{name}.py"
     return [sys.executable, "-B", *([script] if script.exists() else [BINDINGS / "pgboard", name])]
 
@@ -93,24 +89,20 @@ class Use:
         self.folder = common.make_folder(self)
 
     def file(self, name, text):
-        """The path of a file of the test's folder that has this text."""
         path = self.folder / name
         path.write_bytes(text if isinstance(text, bytes) else text.encode())
         return str(path)
 
     def call(self, *words, given=b""):
-        """The status and the output of the script's main, in this process."""
         return called(self.script, [*self.first, *words], given)[:2]
 
     def run_script(self, *words, given=b"", **env):
-        """The status, the output and the errors of the script as a process, at the top of the repository."""
         env = {**os.environ, "PGBOARD": shlex.quote(str(common.PROGRAM)), **env}
         words = [*command_of(self.name), *words]
         status, out, err = common.run(words, given, timeout=600, cwd=common.ROOT, env=env)
         return status, out.decode(errors="replace"), err.decode()
 
     def check_growth(self, call, size):
-        """That a call takes about four times as long on what is four times as large."""
         took = []
         for count in (size, 4 * size):
             begun = time.process_time()
@@ -163,8 +155,8 @@ def check_kept(case, name, made):
     """
     path = common.ROOT / "docs" / "pictures" / name
     if WRITE:
-        path.write_text(made, encoding="utf-8")
-    kept = path.read_text(encoding="utf-8")
+        path.write_text(made)
+    kept = path.read_text()
     version = re.search("graphviz version [0-9.]+", made)
     if version:
         case.assertEqual(sorted(common.drawn(made)), sorted(common.drawn(kept)))
@@ -173,11 +165,8 @@ def check_kept(case, name, made):
 
 
 def even_wins(game, least=False, odd=False):
-    """The vertices that player 0 wins, where the least priority or odd ones may decide, and who is stuck
-    loses.
-    """
     rows = {}
     for id, (priority, owner, successors) in game.items():
         priority = (1000 - priority if least else priority) + odd
         rows[id] = (priority, owner, successors) if successors else (1 - owner, owner, {id})
-    return {id for id, winner in plain.recursion(rows)[0].items() if winner == 0}
+    return {id for id, winner in plain.winners(rows).items() if winner == 0}

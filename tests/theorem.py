@@ -1,9 +1,5 @@
 #!/usr/bin/env python3
-"""Holds docs/THEOREM.md, PROVED.md and ARCHITECTURE.md to the sources: tests/theorem.py
-
-A public contract is a clause of a call that a crate exports or that C calls, or of a trait, or how contracts see
-a type. The definitions that no public contract reaches are in specs/private/, and no others are.
-"""
+"""Holds docs/THEOREM.md, PROVED.md and ARCHITECTURE.md to the sources: tests/theorem.py"""
 
 import collections
 import graphlib
@@ -27,7 +23,6 @@ def exported():
 
 
 def public_calls():
-    """Each public call: its file, its name and its contract."""
     for path, names in exported():
         for name, call in theorem.calls(path).items():
             if call.is_export or call.is_public and (names is None or name.split("::")[0] in names):
@@ -41,7 +36,6 @@ def rows_of(page, columns):
 
 
 def by_file(cell):
-    """The names of a cell, each with the file that is before it."""
     path = None
     for name in re.findall(r"`([^`]+)`", cell):
         if "/" in name:
@@ -51,7 +45,6 @@ def by_file(cell):
 
 
 def calls_of(cell):
-    """The calls of a cell: file, call and the names of clauses after it."""
     found = []
     for path, name in by_file(cell):
         if found and found[-1][0] == path and "::" not in name and name not in theorem.calls(path):
@@ -117,7 +110,6 @@ class Proved(unittest.TestCase):
                     self.judge_edits(re.findall(r"`([^`]+)`", edits), definitions + called)
 
     def judge_edits(self, edits, cells):
-        """Each edit is of a crate that the row names."""
         crates = set(re.findall(r"`(\w+)/", cells))
         self.assertTrue(edits)
         for edit in edits:

@@ -1,17 +1,14 @@
 #!/usr/bin/env python3
-"""Tests of the command of the Python package, `python3 -m pgboard`, over the program, and of how it and the
-scripts of examples/ end: tests/uses.py [PROGRAM]
-
-Games that are read in any form are won as before, by the definition of who wins. Pictures are read back into
-their graphs. The pictures of docs/pictures are what `draw` gives; with --write they are made anew. What
-`explain` prints of wrong solutions is about the vertex that `verify` names: a closed walk of kept edges that
-the other player wins, an edge that leaves, or a choice. What edges a solution keeps is worked out here.
+"""Tests of the package's command over the program, and of how it and the scripts of examples/ end:
+tests/uses.py [PROGRAM] [-k WORD]. With --write the pictures of docs/pictures are made anew.
 """
 
 import bz2
 import collections
+import contextlib
 import gzip
 import itertools
+import json
 import lzma
 import os
 import pathlib
@@ -23,6 +20,7 @@ import signal
 import subprocess
 import sys
 import time
+import tracemalloc
 import unittest
 import unittest.mock
 
@@ -30,20 +28,25 @@ import common
 import plain
 import random_games
 import scripts
+from pgboard import command as shared
 from pgboard.command import games
-from scripts import BINDINGS, EXAMPLES, SIGNALS, Use, command_of, even_wins, graph_of
+from pgboard.files import read_game
+from scripts import BINDINGS, EXAMPLES, MODEL, SIGNALS, Use, command_of, even_wins, graph_of
 
 # --- games in any form ---
 
 
-def spelled_game(chance, game, least):
-    """A text of the game with what other tools write: comments, names, dead ends, other blanks, a header of
-    the least priority.
-    """
+def lines_of(rows):
+    row = lambda id: " ".join(str(it) for it in (id, *rows[id]) if it is not None)
+    return "".join(f"{row(id)};\n" for id in rows)
+
+
+def spelled_game(chance, game, headers):
+    """A text of the game with what other tools write: comments, names, dead ends, other blanks, a header."""
     one = chance.random() < 0.5
     blank = lambda: " " if one else chance.choice([" ", "\t", "  ", "\r\n"])
     comma = "," if one else chance.choice([",", ", ", " ,"])
-    header = chance.choice(["minparity", "min-parity"] if least else ["parity", "max-parity"])
+    header = chance.choice(headers)
     lines = [chance.choice(["", "# made by hand; 0 0 0 0;\n", '// a "game\n']), f"{header} {max(game)};\n"]
     for id, (priority, owner, successors) in game.items():
         start = chance.choice(["start 01;\n"] + [""] * 9)
@@ -70,10 +73,12 @@ with strategy
   [3->3]
 Overall time: 12
 """
-BY_OINK = "[ 0.01] solved in 12 iterations\nwon by even: 0->12 0 12\nwon by odd: 3->3\n[ 0.02] done 7\n"
+BY_OINK = "[ 0.01] solved in 12 iterations\nwon by even: 0->12 12\nwon by odd: 3->3\n[ 0.02] done 7\n"
+ON_A_LINE = "Player 0 wins from nodes: {0, 12} with strategy [0->12] Player 1 wins from nodes: {3}\n[3->3]"
 SOLUTION = "paritysol 12;\n0 0 12;\n3 1 3;\n12 0;\n"
 LEAST = "0 0 0 1;\n1 3 1 0;\n", "parity 1;\n0 4 0 1;\n1 1 1 0;\n"
 ONE = "parity 0;\n0 8 0 0;\n"
+ZEROS = "0" * 4400
 # the fact, flags, the text, and what is written
 CONVERTED = [
     (
@@ -104,8 +109,13 @@ CONVERTED = [
     ("a line after a name", "", '0 8 0 0 "a";\n1 8 0 1; # "b";\n', 'parity 1;\n0 8 0 0 "a";\n1 8 0 1;\n'),
     ("a name of two lines", "", '0 8 0 0 "a;\n1 8 0 1";\n', 'parity 0;\n0 8 0 0 "a;\n1 8 0 1";\n'),
     ("an automaton", "", common.text_of("examples/synthesise/arbiter_2_at_once.hoa"), scripts.ARENA),
+    ("zeros before numbers", "", f"parity {ZEROS}; {ZEROS} {ZEROS}8 {ZEROS} {ZEROS},0{ZEROS};", ONE),
+    ("zeros in a solution", "--solution", f"paritysol {ZEROS}; 0 {ZEROS} {ZEROS};", "paritysol 0;\n0 0 0;\n"),
+    ("zeros in a listing", "--solution", f"won by odd: {ZEROS}->{ZEROS}", "paritysol 0;\n0 1 0;\n"),
     ("a listing of PGSolver", "--solution", LISTED, SOLUTION),
     ("a listing of Oink", "--solution", BY_OINK, SOLUTION),
+    ("a listing on one line", "--solution", ON_A_LINE, SOLUTION),
+    ("no vertices in a part", "--solution", f"won by odd:\n{BY_OINK}Winner: 1: {{}}", SOLUTION),
     (
         "a solution after a log",
         "--solution",
@@ -132,12 +142,36 @@ class Convert(Use, unittest.TestCase):
 
     def test_the_most_vertices_and_edges(self):
         automaton = common.text_of("examples/synthesise/arbiter_2_at_once.hoa")
-        for text, vertices, edges in (("0 8 0 0,1; 1 8 0 1;", 2, 3), (automaton, 5, 9)):
+        game = scripts.HOA_GAME + "State: 0 [t] 0 {0} [t] 0\n--END--\n"
+        for text, vertices, edges in (("0 8 0 0,1; 1 8 0 1;", 2, 3), (automaton, 5, 6), (game, 3, 4)):
             with unittest.mock.patch.multiple(games, MOST_VERTICES=vertices, MOST_EDGES=edges):
                 self.assertEqual(self.converted([], text)[0], 0)
             with unittest.mock.patch.object(games, "MOST_VERTICES", vertices - 1):
                 with self.assertRaisesRegex(self.script.Refused, f"more than {vertices - 1} vertices"):
                     self.converted([], text)
+            with unittest.mock.patch.object(games, "MOST_EDGES", edges - 1):
+                with self.assertRaisesRegex(self.script.Refused, f"or {edges - 1} edges"):
+                    self.converted([], text)
+        with unittest.mock.patch.object(games, "MOST_VERTICES", 2):
+            for text in ("0 0; 1 0; 2 0;", "won by odd: 0 1 2"):
+                with self.assertRaisesRegex(self.script.Refused, "more than 2 vertices"):
+                    self.converted(["--solution"], text)
+
+    def test_the_most_bytes(self):
+        """They are counted as they are read, so that a short file can't fill the memory."""
+        for pack, more in itertools.product(PACKED, (0, 1, 20_000_000)):
+            packed = pack(b"0 8 0 0;" + b" " * (10_000 - 8 + more))
+            with self.subTest(pack=pack, more=more), unittest.mock.patch.object(shared, "MOST_BYTES", 10_000):
+                if not more:
+                    self.assertEqual(self.converted([], packed), (0, ONE, ""))
+                    continue
+                tracemalloc.start()
+                self.addCleanup(tracemalloc.stop)
+                with self.assertRaisesRegex(self.script.Refused, "^standard input: .* more than 10,000 b"):
+                    self.converted([], packed)
+                peak = tracemalloc.get_traced_memory()[1]
+                tracemalloc.stop()
+                self.assertLess(peak, len(packed) + 14_000_000)
 
     def test_what_takes_little_time(self):
         def unpack(count):
@@ -147,18 +181,7 @@ class Convert(Use, unittest.TestCase):
             )
             self.assertEqual(self.script.text_of(self.file("parts", b"".join(parts))).count(";"), count)
 
-        def refuses(flags, text, said):
-            def refuse(count):
-                with self.assertRaisesRegex(self.script.Refused, said):
-                    self.converted(flags, text.replace("{}", ("\n" if "semi" in said else " ") * count))
-
-            return refuse
-
         self.check_growth(unpack, 1_000)
-        self.check_growth(refuses([], "0 0 0 0{}x", "expected a semicolon, found x"), 20_000)
-        self.check_growth(
-            refuses(["--solution"], "Player 0 wins:\n{}x\n", "there is no solution in it"), 20_000
-        )
         size = 100_000
         for flags, end in (([], ";\n"), (["--min"], ' "a state of it";\n')):
             game, begun = (
@@ -167,6 +190,32 @@ class Convert(Use, unittest.TestCase):
             )
             self.assertEqual(self.converted(flags, game)[1].count("\n"), size + 1)
             self.assertLess(time.process_time() - begun, 20)
+
+    def test_a_text_of_one_byte(self):
+        """Each reader takes it in little time, or refuses it, for each byte that its texts have."""
+
+        def late(*_):
+            raise AssertionError("it takes too long")
+
+        self.addCleanup(signal.signal, signal.SIGVTALRM, signal.signal(signal.SIGVTALRM, late))
+        check, file = common.load(EXAMPLES / "modelcheck.py"), self.folder / "text"
+        model = self.file("model", MODEL)
+        for main, words, begins, alphabet in (
+            (self.script, ["convert"], ("", "0 0 0 0"), ' \n0;,"\\#/a-'),
+            (self.script, ["convert"], ("HOA: v1 ", "HOA: v1 AP: 1 "), ' \n0{[(&|!"\\/*a.@-:'),
+            (self.script, ["convert", "--solution"], ("", "won by odd: 1", "0 0"), " \n0;,\"#{[>a-"),
+            (self.script, ["draw", EXAMPLES / "requests.pg", "--trace"], ("", "journal "), " \n0;ae"),
+            (check, [model], ("", "[a"), ' \n0a("%!.*|&<['),
+            (check, ["-", "true"], ("", 'des (0,1,1)\n(0,"'), ' \n0a(",'),
+        ):
+            for begin, byte in itertools.product(begins, alphabet):
+                with self.subTest(words=words, begin=begin, byte=byte):
+                    text = begin + byte * (1 << 16) + "x"
+                    file.write_text(text)
+                    signal.setitimer(signal.ITIMER_VIRTUAL, 5)
+                    with contextlib.suppress(self.script.Refused, RecursionError):
+                        scripts.called(main, [*words, *[file] * (words[0] != "-")], text.encode())
+                    signal.setitimer(signal.ITIMER_VIRTUAL, 0)
 
     def test_random_games_keep_their_winners(self):
         ways = itertools.product((0, 1), (0, 1), (0, 1), ("flag", "header", "both"))
@@ -179,9 +228,11 @@ class Convert(Use, unittest.TestCase):
                     words = (
                         ["--min"] * (least and by != "header")
                         + ["--odd"] * odd
-                        + ["--dead-ends", "lose"] * dead
+                        + ["--dead-ends"] * dead
                     )
-                    text = spelled_game(chance, game, least and by != "flag")
+                    headers = ["parity"] if least else ["parity", "max-parity"]
+                    headers = ["minparity", "min-parity"] if least and by != "flag" else headers
+                    text = spelled_game(chance, game, headers)
                     status, out, err = self.converted(words, chance.choice(PACKED)(text.encode()))
                     self.assertEqual(status, 0, err)
                     self.assertEqual("\nstart 1;\n" in out, "start 01;" in text)
@@ -190,8 +241,18 @@ class Convert(Use, unittest.TestCase):
                     self.assertEqual({id: it[1:] for id, it in found.items()}, edges)
                     self.assertEqual(even_wins(found), even_wins(game, least, odd))
 
+    def test_arrays_of_a_file(self):
+        rules = {"least": True, "dead_ends": True}
+        found = read_game(pathlib.Path(self.file("game", gzip.compress(b"7 0 1 ; 5 3 0 7;"))), **rules)
+        wanted = [5, 7], [0, 1], [1, 0], [0, 1, 2], [1, 1]
+        self.assertEqual(tuple(map(list, found)), wanted)
+        self.assertEqual([it.typecode for it in found[1:]], ["B", "I", "I", "I"])
+        with self.assertRaisesRegex(ValueError, "game:1:5: expected an owner, 0 or 1, found 2$"):
+            read_game(self.file("game", "0 0 2 0;"))
+        with self.assertRaises(OSError):
+            read_game("/no/such file")
+
     def test_a_solution_that_is_cut(self):
-        """A text of a solution that ends within a line is refused, and one that ends with a line is not."""
         for log, cut in itertools.product(("", "solved 7\n"), range(len("paritysol 12;\n0"), len(SOLUTION))):
             text = log + SOLUTION[:cut]
             with self.subTest(text):
@@ -284,7 +345,6 @@ class Draw(Use, unittest.TestCase):
                 self.check_drawn(self.call(*files)[1], game, solution)
 
     def test_entries_of_a_trace_read_back(self):
-        """After each number of entries the picture has what these settle, and no more."""
         for chance in map(random.Random, range(12)):
             game = random_games.random_game(chance)
             path = self.file("game.pg", plain.written_game(game))
@@ -299,15 +359,26 @@ class Draw(Use, unittest.TestCase):
                 with self.subTest(game=game, count=count):
                     self.check_drawn(self.call("--trace", trace, "--entries", count, path)[1], game, solution)
 
+    def test_dead_ends_are_those_of_the_text(self):
+        game = self.file("game.pg", '1 4 0 ; 0 4 0 1 "a";')
+        for words, priority in ((["--dead-ends"], 4), (["--dead-ends", "--min"], 4)):
+            vertices, edges = graph_of(self.call(*words, game, self.file("sol", "0 1; 1 1;"))[1])
+            self.assertEqual((list(vertices), list(edges)), (["0", "1"], [("0", "1")]))
+            self.assertIn(f"label=<{priority}<br/><font", vertices["1"])
+        numbers = json.loads(scripts.called(self.script, ["stats", "--json", "--dead-ends", game])[1])
+        self.assertEqual((numbers["edges"], numbers["own loops"]), (1, 0))
+        self.assertEqual(numbers["greatest degrees"], {"out": 1, "in": 1})
+        self.assertEqual(numbers["priorities"], {"least": 4, "greatest": 4, "different": 1})
+
     def test_a_picture_has_at_most_200_vertices(self):
         game = lambda count: self.file(f"{count}.pg", "".join(f"{v} 0 0 {v};\n" for v in range(count)))
         self.assertEqual(self.call(game(200))[0], 0)
-        with self.assertRaisesRegex(self.script.Refused, "201 vertices are too many"):
-            self.call(game(201))
+        text = pathlib.Path(game(201)).read_bytes()
+        with self.assertRaisesRegex(self.script.Refused, "^standard input: 201 vertices are too many"):
+            self.call(given=text)
 
     @common.needs("dot")
     def test_other_kinds_of_pictures(self):
-        """A flag may stand between the words."""
         for flag, begins in (("--png", "PNG"), ("--pdf", "%PDF-"), ("--svg", "<?xml")):
             with self.subTest(flag):
                 status, out, err = self.run_script("examples/both_win.pg", flag, "examples/both_win.sol")
@@ -333,47 +404,36 @@ PLAYERS = ("Even", "Odd")
 class Explain(Use, unittest.TestCase):
     name = "explain"
 
-    def lines_of_a_cycle(self, game, solution, lines, id):
-        """What has to be said of a bad cycle, by the walk that is said, and its edges."""
+    def of_a_cycle(self, game, solution, lines, id):
         winner = solution[id][0]
         walk = [int(it.split(":")[0]) for it in lines[1:]]
         edges = list(zip(walk, [*walk[1:], walk[0]]))
         self.assertEqual((walk[0], len(set(walk))), (id, len(walk)), "a shortest walk sees no vertex twice")
         self.assertEqual((max(game[it][0] for it in walk), game[id][0] % 2), (game[id][0], 1 - winner))
-        wanted = [
-            f"{PLAYERS[winner]} is said to win these vertices, "
-            "and by the edges that are kept a play can go round them for ever:"
-        ]
+        facts = [PLAYERS[winner]]
         for at, to in edges:
             self.assertEqual((solution[at][0], to in plain.kept(game, solution, at)), (winner, True))
-            verb = "chooses" if game[at][1] == winner else "may move to"
-            mark = f"   <- the greatest, and {PLAYERS[1 - winner]}'s" * (at == id)
-            wanted.append(f"  {at}: priority {game[at][0]}, {PLAYERS[game[at][1]]} {verb} {to}{mark}")
-        return wanted, edges
+            verb = "chooses" if game[at][1] == winner else "may move"
+            facts += [at, game[at][0], PLAYERS[game[at][1]], verb, to]
+            facts += ["greatest", PLAYERS[1 - winner]] * (at == id)
+        return facts, edges
 
-    def lines_of_leaving(self, game, solution, _, id, to):
-        (winner, _), owner = solution[id], game[id][1]
-        line = lambda id: 1 + list(solution).index(id)
-        inside = ", ".join(str(it) for it in sorted(game[id][2]) if solution[it][0] == winner)
-        verb = "chooses" if owner == winner else "may move to"
+    def of_leaving(self, game, solution, _, id, to):
+        (winner, _), owner, line = solution[id], game[id][1], list(solution).index
+        inside = [it for it in sorted(game[id][2]) if solution[it][0] == winner]
+        verb = "chooses" if owner == winner else "may move"
         self.assertEqual((to in plain.kept(game, solution, id), solution[to][0]), (True, 1 - winner))
-        return [
-            f"{PLAYERS[winner]} is said to win {id} (line {line(id)} of the solution), "
-            f"and {PLAYERS[1 - winner]} {to} (line {line(to)}).",
-            f"  {id} -> {to}: {PLAYERS[owner]} owns {id}, and {verb} {to}",
-            f"Successors of {id} that {PLAYERS[winner]} is said to win: {inside or 'none'}",
-        ], [(id, to)]
+        facts = [PLAYERS[winner], id, 1 + line(id), PLAYERS[1 - winner], to, 1 + line(to)]
+        facts += [id, to, PLAYERS[owner], id, verb, to, id, PLAYERS[winner], *(inside or ["none"])]
+        return facts, [(id, to)]
 
-    def lines_of_a_choice(self, game, solution, _, id):
+    def of_a_choice(self, game, solution, _, id):
         winner, choice = solution[id]
         self.assertEqual((winner, choice in game[id][2]), (game[id][1], False))
-        names = "names no choice" if choice is None else f"names {choice}, which is no successor"
-        successors = ", ".join(
-            f"{it} (said to be {PLAYERS[solution[it][0]]}'s)" for it in sorted(game[id][2])
-        )
-        line = f"Line {1 + list(solution).index(id)} of the solution says that {PLAYERS[winner]} wins {id}"
-        said = [f"{line}, which {PLAYERS[winner]} owns, and {names}.", f"Successors of {id}: {successors}"]
-        return said, [(id, to) for to in sorted(game[id][2])]
+        names = ["no choice"] if choice is None else [choice, "no successor"]
+        facts = [1 + list(solution).index(id), PLAYERS[winner], id, PLAYERS[winner], *names, id]
+        facts += [fact for it in sorted(game[id][2]) for fact in (it, PLAYERS[solution[it][0]])]
+        return facts, [(id, to) for to in sorted(game[id][2])]
 
     def check_drawn(self, text, game, solution, red):
         """That a picture has these edges in red, all vertices next to theirs, and the first edge's vertex
@@ -388,33 +448,27 @@ class Explain(Use, unittest.TestCase):
         self.assertEqual(drawn(text, game), (looks, edges))
 
     def test_wrong_solutions(self):
-        explain = {
-            "cycle": self.lines_of_a_cycle,
-            "leaves": self.lines_of_leaving,
-            "choice": self.lines_of_a_choice,
-        }
+        explain = {"cycle": self.of_a_cycle, "leaves": self.of_leaving, "choice": self.of_a_choice}
+        words = r"\d+|Even|Odd|chooses|may move|greatest|none|no choice|no successor"
         kinds, picture = collections.Counter(), self.folder / "picture.dot"
         for chance in map(random.Random, range(600)):
             game = random_games.random_game(chance)
             solution = random_games.random_solution(chance, game)
-            rows = (" ".join(str(it) for it in (id, *solution[id]) if it is not None) for id in solution)
-            files = self.file("game.pg", plain.written_game(game)), self.file(
-                "game.sol", "".join(f"{it};\n" for it in rows)
-            )
+            texts = plain.written_game(game), lines_of(solution)
+            files = [*map(self.file, ("game.pg", "game.sol"), texts)]
             with self.subTest(game=game, solution=solution):
                 status, out = self.call(*files, "--picture", picture)
                 first, *lines = out.rstrip("\n").split("\n")
                 self.assertEqual((status, first + "\n"), (int(first != "ok"), plain.verdict(game, solution)))
                 for kind in explain.keys() & first.split():
                     wanted, edges = explain[kind](game, solution, lines, *map(int, re.findall(r"\d+", first)))
-                    self.assertEqual(lines, wanted)
-                    self.check_drawn(picture.read_text(encoding="utf-8"), game, solution, edges)
+                    self.assertEqual(re.findall(words, "\n".join(lines)), [*map(str, wanted)])
+                    self.check_drawn(picture.read_text(), game, solution, edges)
                 kinds[re.sub(r"[ \d]", "", first)] += 1
         self.assertEqual(len(kinds), 5, kinds)
         self.assertGreater(min(kinds.values()), 12, kinds)
 
     def said(self, game, solution, *words):
-        """What is said of a solution that is none."""
         status, out = self.call(*words, self.file("game.pg", game), self.file("game.sol", solution))
         self.assertEqual(status, 1)
         return out
@@ -430,14 +484,14 @@ class Explain(Use, unittest.TestCase):
         loops, picture = range(1, 301), self.folder / "picture.dot"
         game = f"0 1 0 0,{','.join(map(str, loops))};\n" + "".join(f"{v} 0 0 {v};\n" for v in loops)
         self.said(game, "".join(f"{v} 0 {v};\n" for v in (0, *loops)), "--picture", picture)
-        vertices, edges = graph_of(picture.read_text(encoding="utf-8"))
+        vertices, edges = graph_of(picture.read_text())
         self.assertEqual((len(vertices), "red" in edges["0", "0"]), (200, True))
 
     def test_names_are_shown_without_what_a_terminal_would_obey(self):
         self.assertIn('  0 "a\\x1b[2Jb": priority 1', self.said('0 1 0 0 "a\x1b[2Jb";', "0 0 0;"))
+        self.assertIn('  0 "a \\"b\\"": priority 1', self.said('0 1 0 0 "a \\"b\\"";', "0 0 0;"))
 
     def test_a_line_is_named_by_where_it_begins(self):
-        """Also after a name with line feeds."""
         out = self.said("0 0 0 1; 1 1 1 1;", '\n0 0\n1 "a\n\nname";\n1\n1\n1;')
         self.assertIn("Even is said to win 0 (line 2 of the solution), and Odd 1 (line 6).", out)
 
@@ -450,13 +504,37 @@ class Explain(Use, unittest.TestCase):
         self.assertEqual(re.findall(r"(?m)^  (\d+): ", out), ["0", "2", "3"])
 
     def test_priorities_are_shown_as_they_were_given(self):
-        """The walk's first vertex is the decisive one, with the priority of the text."""
         for flag, first in (
             ("--min", "  0: priority 3, Even chooses 1   <- the least, and Odd's"),
             ("--odd", "  1: priority 8, Odd may move to 0   <- the greatest, and Odd's"),
         ):
             out = self.said("0 3 0 1; 1 8 1 0;", "0 0 1; 1 0;", flag)
             self.assertEqual(out.splitlines()[2], first)
+
+    def test_a_dead_end(self):
+        for choice in ("", " 1", " 0"):
+            picture = self.folder / "picture.dot"
+            words = "--dead-ends", "--picture", picture
+            out = self.said('0 4 0 1;\n1 4 0 "stuck";', f"0 0 1;\n1 0{choice};", *words)
+            said = 'Line 2 of the solution says that Even wins 1 "stuck", which Even owns. '
+            self.assertEqual(out.splitlines()[1:], [f"{said}It has no successor, so Even loses there."])
+            vertices, edges = graph_of(picture.read_text())
+            self.assertEqual((set(vertices), set(edges)), ({"0", "1"}, {("0", "1")}))
+            self.assertIn("color=red", vertices["1"])
+
+    def test_a_game_in_the_HOA_format(self):
+        for kind, first, least in (
+            ("Inf(1) | Fin(0)", 0, False),
+            ("Inf(0) | Fin(1)", 0, True),
+            ("Fin(0) & Inf(1)", 1, True),
+        ):
+            game = scripts.HOA_GAME.replace("1 Inf(0)", f"2 {kind}").replace(": 0\n--B", ": 0 0 0\n--B")
+            game += f"State: 0 [t] 1 {{{first}}} State: 1 [t] 2 State: 2 [t] 0 {{1}} [t] 2 {{0}}\n--END--\n"
+            out = self.said(game, "0 0 1; 1 0 2; 2 0 3; 3 0 0; 4 0 2;")
+            walk = re.findall(r"(?m)^  (\d+).*: priority (\w+), ", out)
+            wanted = [("3", "1"), ("0", str(first)), ("1", "none"), ("2", "none")]
+            self.assertEqual(walk, wanted[1:] + wanted[:1] if least else wanted)
+            self.assertIn(f"<- the {'least' if least else 'greatest'}, and Odd's", out)
 
     def test_damaged_texts(self):
         game, solution = (
@@ -465,11 +543,11 @@ class Explain(Use, unittest.TestCase):
         )
         self.check_damaged(
             lambda it: self.call(self.file("damaged", it), solution),
-            pathlib.Path(game).read_text(encoding="utf-8"),
+            pathlib.Path(game).read_text(),
         )
         self.check_damaged(
             lambda it: self.call(game, self.file("damaged", it)),
-            pathlib.Path(solution).read_text(encoding="utf-8"),
+            pathlib.Path(solution).read_text(),
         )
 
 
@@ -515,14 +593,14 @@ class Winner(Use, unittest.TestCase):
                     status, text = self.call(path, *words, "--reach", "--game", part, "--picture", picture)
                     self.assertEqual(status, winner)
                     edges = self.check_part(game, vertex, text, winner)
-                    written = part.read_text(encoding="utf-8")
+                    written = part.read_text()
                     self.assertEqual(re.findall("start (.*);", written), [str(vertex)])
                     wanted = {id: (*game[id][:2], to) for id, to in edges.items()}
                     self.assertEqual(plain.game_of(written.encode()), wanted)
                     self.assertEqual(even_wins(wanted), set() if winner else set(wanted))
                     looks = {id: (winner, []) for id in edges}
                     bold = {(id, to): ["bold"] * (game[id][1] == winner) for id in edges for to in edges[id]}
-                    self.assertEqual(drawn(picture.read_text(encoding="utf-8"), game), (looks, bold))
+                    self.assertEqual(drawn(picture.read_text(), game), (looks, bold))
         self.assertGreater(min(statuses.count(0), statuses.count(1)), 80)
 
     def test_names_stay(self):
@@ -531,8 +609,111 @@ class Winner(Use, unittest.TestCase):
         )
         self.assertEqual(self.call(path, "--vertex", 0, "--game", part), (0, "Even wins vertex 0\n"))
         self.assertEqual(
-            part.read_text(encoding="utf-8"), 'parity 1;\nstart 0;\n0 1 0 1 "a b";\n1 2 1 1 "\u00e9";\n'
+            part.read_text(), 'parity 1;\nstart 0;\n0 1 0 1 "a b";\n1 2 1 1 "\u00e9";\n'
         )
+
+
+# --- solve, verify and stats ---
+
+class Solve(Use, unittest.TestCase):
+    """Over the program, and in bindings/python/test_command.py over the library, which tells its entries."""
+
+    name, has_entries = "solve", False
+
+    def word(self, *words):
+        return scripts.called(self.script, words)[:2]
+
+    def test_random_games(self):
+        """The solution holds, and a damaged one has its verdict; of a part that does not hold the first fault
+        is named, with its line.
+        """
+        kinds = set()
+        for seed in range(200):
+            chance = random.Random(seed)
+            game = random_games.random_game(chance)
+            path, id = self.file("game.pg", plain.written_game(game)), chance.choice(list(game))
+            with self.subTest(game=game):
+                status, out = self.call(path)
+                self.assertEqual((status, plain.written_fault(game, out.encode())), (0, None))
+                winner = plain.winners(game)[id]
+                self.assertEqual(self.word("winner", "--vertex", id, path)[0], winner)
+                rows = plain.solution_of(game, out.encode())
+                wrong = {**rows, id: (chance.randrange(2), chance.choice([None, *game]))}
+                said = plain.verdict(game, wrong)
+                solution = self.file("game.sol", lines_of(wrong))
+                self.assertEqual(self.word("verify", path, solution), (int(said != "ok\n"), said))
+                known = {id: row for id, row in wrong.items() if chance.random() < 0.7}
+                kinds.add(self.takes_what_is_known(game, path, known))
+        self.assertEqual(len(kinds), 5, kinds)
+
+    def takes_what_is_known(self, game, path, known):
+        part, why = self.file("part.sol", lines_of(known)), next(plain.known_faults(game, known), None)
+        if why is None:
+            found = plain.solution_of(game, self.call("--known", part, path)[1].encode())
+            self.assertEqual([found[id][0] for id in known], [winner for winner, _ in known.values()])
+            return None
+        with self.assertRaises(self.script.Refused) as caught:
+            self.call("--known", part, path)
+        line = 1 + list(known).index(int(re.search(r"\d+", why)[0]))
+        self.assertEqual(
+            (str(caught.exception), caught.exception.status), (f"{part}:{line}:1: known: {why}", 1)
+        )
+        return re.sub(r"\d+", "", why)
+
+    # what `stats` says of the game of these tests, as text and as JSON
+    NUMBERS = {
+        "vertices": 3,
+        "edges": 4,
+        "owners": {"Even": 1, "Odd": 2},
+        "priorities": {"least": 1, "greatest": 4, "different": 3},
+        "own loops": 2,
+        "greatest degrees": {"out": 2, "in": 2},
+        "components": {"number": 3, "greatest": 1, "least": 1},
+    }
+    STATS = "vertices: 3\nedges: 4\nowners: Even 1, Odd 2\n"
+    STATS += "priorities: least 1, greatest 4, different 3\nown loops: 2\n"
+    STATS += "greatest degrees: out 2, in 2\ncomponents: number 3, greatest 1, least 1\n"
+
+    def test_json_and_statistics(self):
+        path = self.file("game.pg", 'parity 2;\n5 2 0 5,9 "a";\n9 1 1 9;\n7 4 1 5;\n')
+        wrong = self.file("wrong", "5 0 9; 9 1 9; 7 0;")
+        self.assertEqual(json.loads(self.word("stats", "--json", path)[1]), self.NUMBERS)
+        self.assertEqual(self.word("stats", path), (0, self.STATS))
+        found = json.loads(self.call("--json", "--stats", "--keep-names", path)[1])
+        rows = [
+            {"vertex": 5, "winner": 0, "choice": 5, "name": "a"},
+            {"vertex": 7, "winner": 0, "choice": None},
+            {"vertex": 9, "winner": 1, "choice": 9},
+        ]
+        self.assertTrue(0 <= found["stats"].pop("seconds") < 99)
+        self.assertEqual(found["stats"].pop("entries", 0) in (1, 2, 3), self.has_entries)
+        stats = {**self.NUMBERS, "winners": {"Even": 2, "Odd": 1}}
+        self.assertEqual(found, {"is_whole": True, "solution": rows, "stats": stats})
+        status, out, err = scripts.called(self.script, ["solve", "--stats", path])
+        self.assertEqual((status, out), (0, "paritysol 9;\n5 0 5;\n7 0;\n9 1 9;\n"))
+        more = r"winners: Even 2, Odd 1\nseconds: [0-9.]+\n" + r"entries: [123]\n" * self.has_entries
+        self.assertRegex(err, rf"\A{re.escape(self.STATS)}{more}\Z")
+        said = {"is_solution": False, "fault": "5 leaves to 9"}
+        won = {"vertex": 7, "winner": 0}
+        for status, wanted, *asked in (
+            (1, said, "verify", path, wrong),
+            (0, won, "winner", "--vertex", "7", path),
+            (0, {**won, "reach": [5, 7]}, "winner", "--reach", "--vertex", "7", path),
+        ):
+            self.assertEqual(self.word(*asked, "--json"), (status, json.dumps(wanted) + "\n"))
+
+    def test_components_of_random_games(self):
+        for seed in range(100):
+            game = random_games.random_game(random.Random(seed))
+            reach = {id: {id} for id in game}
+            for _ in game:
+                reach = {id: them.union(*(game[it][2] for it in them)) for id, them in reach.items()}
+            parts = {frozenset(to for to in reach[id] if id in reach[to]) for id in game}
+            path = self.file("game.pg", plain.written_game(game))
+            found = json.loads(self.word("stats", "--json", path)[1])
+            sizes = list(map(len, parts))
+            wanted = {"number": len(sizes), "greatest": max(sizes), "least": min(sizes)}
+            self.assertEqual(found["components"], wanted, game)
 
 
 # --- all ---
@@ -550,17 +731,16 @@ class Program(unittest.TestCase):
         (self.top / "path").mkdir()
 
     def script(self, path, line=""):
-        """A program that writes down its path and words, and then is pgboard."""
         text = f'#!/bin/sh\necho "$0 $*" >> "{self.top}/log"\n{line}\nexec {common.PROGRAM} "$@"\n'
         common.write_program(self.top / path, text)
 
     def winner(self, **env):
         """Status, output and error of the command, and the programs that it ran, each with its first word."""
-        (self.top / "log").write_text("", encoding="ascii")
+        (self.top / "log").write_text("")
         words = ["bindings/python/pgboard", "winner", "--vertex", "0", EXAMPLES / "both_win.pg"]
         env = {"PATH": f"{self.top}/path:/bin", **env}
         status, out, err = common.run([sys.executable, "-B", *words], cwd=self.top, env=env)
-        lines = (self.top / "log").read_text(encoding="utf-8").replace(f"{self.top}/", "").splitlines()
+        lines = (self.top / "log").read_text().replace(f"{self.top}/", "").splitlines()
         return status, out.decode(), err.decode(), [" ".join(it.split()[:2]) for it in lines]
 
     def test_each_place_in_turn(self):
@@ -587,7 +767,7 @@ class Program(unittest.TestCase):
         self.assertEqual(self.winner(PGBOARD=""), proved)
         status, out, err, ran = self.winner(PGBOARD_LIBRARY="/nowhere.so")
         self.assertEqual((status, out, ran), (4, "", []), "a library that is named is not passed over")
-        self.assertTrue(err.startswith("pgboard: pgboard: its library can't be loaded (/nowhere.so: "), err)
+        self.assertTrue(err.startswith("pgboard: its library can't be loaded (/nowhere.so: "), err)
 
     def test_the_scripts_without_the_package(self):
         shutil.copytree(
@@ -596,7 +776,7 @@ class Program(unittest.TestCase):
         status, out, err = common.run(
             [sys.executable, "-B", self.top / "other" / "examples" / "modelcheck.py"]
         )
-        self.assertEqual((status, out, err[:41]), (1, b"", b"the Python package pgboard is not here: i"))
+        self.assertEqual((status, out, err[:41]), (4, b"", b"the Python package pgboard is not here: i"))
 
 
 class Refused(unittest.TestCase):
@@ -610,7 +790,7 @@ class Refused(unittest.TestCase):
         os.chdir(common.ROOT)
         file = str(folder / "file")
         files = {"FILE": file, "MODEL": str(folder / "model.aut"), "TRACE": str(folder / "trace")}
-        pathlib.Path(files["MODEL"]).write_text(scripts.MODEL, encoding="ascii")
+        pathlib.Path(files["MODEL"]).write_text(scripts.MODEL)
         trace = common.program("trace", "--workers", "1", EXAMPLES / "requests.pg")[1]
         pathlib.Path(files["TRACE"]).write_bytes(trace)
         mains = {it: common.load(EXAMPLES / f"{it}.py") for it in ("modelcheck", "synthesise")}
@@ -641,7 +821,6 @@ class Refused(unittest.TestCase):
                     )
 
     def ended(self, name, script, words, given):
-        """How a call ends: in this process where that is by a fault of its own."""
         try:
             return scripts.called(script, words, given)
         except script.Refused as fault:
@@ -655,7 +834,6 @@ class Refused(unittest.TestCase):
             return status, out.decode(), err.decode()
 
     def marked(self, row, column, text):
-        """The line, or a part of a long one, and a mark below its column."""
         line = text.split("\n")[row - 1] if text.strip() else ""
         spelled = lambda it: it if it.isprintable() else " " if it == "\t" else ascii(it)[1:-1]
         before, after = (
@@ -665,7 +843,6 @@ class Refused(unittest.TestCase):
 
 
 def path_text(path, file, text):
-    """The text that a place is of: that of the row, or of a file."""
     if path in (file, "standard input", "formula"):
         return text.encode("latin-1").decode("utf-8", "surrogateescape")
     return common.text_of(path)
@@ -689,9 +866,10 @@ MODELCHECK = [*command_of("modelcheck"), EXAMPLES / "modelcheck" / "mutex.aut", 
 BEGINS = """
 import os, signal, sys
 from pgboard import command
+command.undo = []
 def begin(name):
     print("begin", name)
-    os.kill(os.getpid(), signal.SIGTERM if name == sys.argv[1] else 0)
+    os.kill(os.getpid(), int(sys.argv[2]) * (name == sys.argv[1]))
     print("begun", name, flush=True)
     return name
 end = lambda name: print("end", name, flush=True)
@@ -716,7 +894,6 @@ class Ends(unittest.TestCase):
             self.addCleanup(signal.signal, number, signal.signal(number, lambda *_: None))
 
     def ended(self, line):
-        """How a line of bash ends: its status, its output, and its errors."""
         calls = CALLS.format(python=sys.executable, bindings=BINDINGS, examples=EXAMPLES)
         env = {
             **os.environ,
@@ -737,8 +914,8 @@ class Ends(unittest.TestCase):
     def test_each_row(self):
         for path in FILES:
             shutil.copy(EXAMPLES / path, self.folder)
-        (self.folder / "named.pg").write_text('0 0 0 0,1 "\u03a9"; 1 1 1 1;', encoding="utf-8")
-        (self.folder / "away.pg").write_text("0 1 0 1; 1 2 0 1;", encoding="ascii")
+        (self.folder / "named.pg").write_text('0 0 0 0,1 "\u03a9"; 1 1 1 1;')
+        (self.folder / "away.pg").write_text("0 1 0 1; 1 2 0 1;")
         (self.folder / "full.dot").symlink_to("/dev/full")
         common.write_program(self.folder / "at", AT.format(common.PROGRAM))
         form = lambda text: re.escape(text.replace("\\n", "\n")).replace(r"\.\.\.", "(?s:.*)")
@@ -770,13 +947,9 @@ class Ends(unittest.TestCase):
         process = subprocess.Popen(command, stdout=subprocess.PIPE, stderr=subprocess.PIPE, env=env)
         self.addCleanup(process.kill)
         common.wait_until(number.exists)
-        self.assertEqual(len(list(temporary.iterdir())), 1)
-        return process, int(number.read_text(encoding="ascii"))
+        return process, int(number.read_text())
 
     def check_ended(self, process, number, program):
-        """That a script was ended by a signal, said nothing of it, and left neither a file nor the program
-        that it ran.
-        """
         out, err = process.communicate(timeout=60)
         said = re.sub(b"^modelcheck: size.*\n", b"", err)
         self.assertEqual((process.returncode, out, said), (-number, b"", b""))
@@ -800,8 +973,12 @@ class Ends(unittest.TestCase):
                 self.assertEqual(ended.exists(), waits == ends[1])
                 ended.unlink(missing_ok=True)
 
+    def test_a_command_that_is_killed(self):
+        process, program = self.start(WINNER)
+        process.kill()
+        self.check_ended(process, signal.SIGKILL, program)
+
     def test_a_signal_that_is_ignored(self):
-        """As by nohup."""
         process, program = self.start(["sh", "-c", 'trap "" HUP INT; exec "$@"', "", *WINNER])
         for number in (signal.SIGHUP, signal.SIGINT):
             process.send_signal(number)
@@ -812,10 +989,9 @@ class Ends(unittest.TestCase):
         self.check_ended(process, signal.SIGTERM, program)
 
     def test_a_signal_while_a_script_begins(self):
-        """While it loads what it needs, of which `argparse` takes long here."""
         here = self.folder / "here"
         waits = f"import time\nopen({str(here)!r}, 'w')\ntime.sleep(99)\n"
-        (self.folder / "argparse.py").write_text(waits, encoding="ascii")
+        (self.folder / "argparse.py").write_text(waits)
         pipes = {"stdout": subprocess.PIPE, "stderr": subprocess.PIPE}
         for script, number in itertools.product(
             ("winner", "modelcheck", "synthesise", "board/referee"), SIGNALS
@@ -834,15 +1010,15 @@ class Ends(unittest.TestCase):
         names = "first", "second", "third"
         first, second, third = ([f"{it} {name}" for it in ("begin", "begun", "end")] for name in names)
         whole = [*first[:2], *second, *third, first[2]]
-        for name, status, wanted in (
+        for name, number, wanted in (
             ("none", 0, whole),
-            ("first", -signal.SIGTERM, first),
-            ("second", -signal.SIGTERM, [*first[:2], *second, first[2]]),
-            ("third", -signal.SIGTERM, whole),
+            ("first", signal.SIGTERM, first),
+            *(("second", it, [*first[:2], *second, first[2]]) for it in SIGNALS),
+            ("third", signal.SIGTERM, whole),
         ):
             env = {**os.environ, "PYTHONPATH": str(BINDINGS)}
-            got = common.run([sys.executable, "-B", "-c", BEGINS, name], env=env)
-            self.assertEqual(got, (status, "".join(f"{it}\n" for it in wanted).encode(), b""), name)
+            got = common.run([sys.executable, "-B", "-c", BEGINS, name, str(int(number))], env=env)
+            self.assertEqual(got, (-number, "".join(f"{it}\n" for it in wanted).encode(), b""), name)
 
 
 if __name__ == "__main__":

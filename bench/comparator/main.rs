@@ -2,12 +2,13 @@
 //!
 //! It stands on the standard library alone and is written for speed: each text is read whole and in one pass, games lie
 //! in flat lists, and the output is made in one buffer. Nothing of it is proved. `selftest` compares its fast parts with
-//! slow and plain ones on random games. Build it with `rustc -O --edition 2021 main.rs`.
+//! slow and plain ones on random games. `solve --plain` takes the plain recursion. Build it with `rustc -O --edition 2024 main.rs`.
 
 mod cycles;
 mod fault;
 mod game;
 mod lexer;
+mod plain;
 mod read;
 mod rounds;
 mod selftest;
@@ -126,25 +127,28 @@ fn tidy(game: Option<&str>) -> Result<Answer, Fault> {
     Ok(Answer::done(write::game(&game)))
 }
 
+type Recursion = fn(&game::Game) -> read::Solution;
+
 fn solve(words: &[&str]) -> ExitCode {
-    let (mut winners, mut game) = (false, None);
+    let (mut winners, mut recursion, mut game) = (false, solve::solve as Recursion, None);
     let mut words = words.iter();
     while let Some(word) = words.next() {
         match *word {
             "--winners" => winners = true,
+            "--plain" => recursion = plain::zielonka,
             // pgboard's own options, which change nothing here
             "--workers" | "--bound" => drop(words.next()),
             word if !word.starts_with('-') && game.is_none() => game = Some(word),
             _ => return refused(),
         }
     }
-    finish(solved(winners, game))
+    finish(solved(winners, recursion, game))
 }
 
-fn solved(winners: bool, path: Option<&str>) -> Result<Answer, Fault> {
+fn solved(winners: bool, recursion: Recursion, path: Option<&str>) -> Result<Answer, Fault> {
     let text = text_of(open(path)?)?;
     let game = read::game(&text)?;
     drop(text);
-    let solution = solve::zielonka(&game);
+    let solution = recursion(&game);
     Ok(Answer::done(if winners { write::winners(&game, &solution) } else { write::solution(&game, &solution) }))
 }

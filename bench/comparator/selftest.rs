@@ -3,7 +3,7 @@
 use crate::game::{Game, Specs};
 use crate::read::{self, Solution};
 use crate::verify::{self, NoSolution, kept};
-use crate::{cycles, solve, write};
+use crate::{cycles, plain, solve, write};
 use std::process::ExitCode;
 
 /// Numbers from a fixed seed (splitmix64).
@@ -19,7 +19,8 @@ impl Random {
     }
 
     fn game(&mut self) -> Game {
-        let n = 1 + self.below(12);
+        let most = if self.below(16) == 0 { 200 } else { 12 };
+        let n = 1 + self.below(most);
         let priorities = 1 + self.below(2 * n);
         let degree = 1 + self.below(3);
         let mut specs = Specs::default();
@@ -37,7 +38,7 @@ impl Random {
 }
 
 /// The verdict on cycles by one search for each bad vertex.
-fn plain(game: &Game, solution: &Solution) -> Result<(), NoSolution> {
+fn verdict(game: &Game, solution: &Solution) -> Result<(), NoSolution> {
     verify::check_edges(game, solution)?;
     for v in 0..game.len() {
         let top = game.priorities[v as usize];
@@ -67,9 +68,16 @@ fn fault(random: &mut Random) -> Option<String> {
     if !read::game(&text).is_ok_and(|again| write::game(&again) == text) {
         return Some(format!("tidy twice differs\n{}", shown()));
     }
-    let mut solution = solve::zielonka(&game);
-    if let Err(why) = plain(&game, &solution) {
+    let mut solution = plain::zielonka(&game);
+    if let Err(why) = verdict(&game, &solution) {
+        return Some(format!("solve --plain: {why}\n{}", shown()));
+    }
+    let odd = std::mem::replace(&mut solution, solve::solve(&game)).odd;
+    if let Err(why) = verdict(&game, &solution) {
         return Some(format!("solve: {why}\n{}", shown()));
+    }
+    if odd != solution.odd {
+        return Some(format!("solve and solve --plain: other winners\n{}", shown()));
     }
     for _ in 0..4 {
         // both verdicts agree, also on solutions with a fault, most of which keep to their regions
@@ -83,7 +91,7 @@ fn fault(random: &mut Random) -> Option<String> {
                 solution.choices[u as usize] = row[random.below(row.len() as u32) as usize];
             }
         }
-        let (fast, slow) = (verify::check(&game, &solution), plain(&game, &solution));
+        let (fast, slow) = (verify::check(&game, &solution), verdict(&game, &solution));
         if fast != slow {
             return Some(format!("verify: {fast:?} and {slow:?}\n{}", shown()));
         }

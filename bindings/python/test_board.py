@@ -8,6 +8,7 @@ import ctypes
 import gc
 import pathlib
 import pickle
+import sys
 import threading
 import time
 import unittest
@@ -24,7 +25,6 @@ NONE = pgboard.NO_CHOICE
 
 
 def loops(size):
-    """A game of vertices that Even wins, each alone."""
     return [0] * size, [2] * size, [[v] for v in range(size)]
 
 
@@ -112,6 +112,26 @@ class Boards(Tests):
             it.join(60)
         self.assertEqual(([it.is_alive() for it in threads], slow._users), ([False] * 4, set()))
 
+    def test_an_interrupt_as_a_turn_begins(self):
+        """It leaves no thread for which `finish` would wait."""
+        for count in range(1, 5):
+            board, left = pgboard.Board(*TWO), [count]
+
+            def trace(frame, event, _, left=left):
+                if frame.f_code.co_name == "_turn" and event == "line":
+                    left[0] -= 1
+                    if not left[0]:
+                        sys.settrace(None)
+                        raise KeyboardInterrupt
+                return trace
+
+            with self.assertRaises(KeyboardInterrupt):
+                sys.settrace(trace)
+                board.unsettled()
+            with mock.patch("time.sleep") as sleep:
+                board.finish()
+            self.assertFalse(sleep.called, count)
+
     def begun(self, call):
         thread = threading.Thread(target=self.quietly, args=(call,), daemon=True)
         thread.start()
@@ -197,7 +217,7 @@ class Boards(Tests):
         size = 20_000
         row = array("I", range(size + 1))
         game = bytes(size), memoryview(bytes(4 * size)).cast("I"), row, row[:-1]
-        pages = lambda: int(pathlib.Path("/proc/self/statm").read_text(encoding="ascii").split()[1])
+        pages = lambda: int(pathlib.Path("/proc/self/statm").read_text().split()[1])
         closed = lambda: pgboard.Board.from_csr(*game).close()
         for way in (closed, lambda: pgboard.Board.from_csr(*game)):
             way()
@@ -256,7 +276,7 @@ class Boards(Tests):
         self.assertEqual((type(other), other.post(0, {0: 0})), (Mine, (0, 1, 1)))
 
     def test_numbers_and_types_that_are_refused(self):
-        board, whole = pgboard.Board(*TWO), "is an integer, not"
+        board, whole = pgboard.Board(*TWO), "has to be an integer, not"
         for claim in (None, [(0, 0)], 5, "0"):
             said = f"choices are a mapping from vertices, not {type(claim).__name__}"
             self.says(said, board.post, 0, claim)

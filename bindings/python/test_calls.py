@@ -15,7 +15,7 @@ from pgboard import slices
 from test_pgboard import GAME, TWO, Tests, networkx, plain, python
 
 LARGE = [0] * 200, [0] * 200, [[0]] * 200
-# a game that takes the library for ever, and the slices that were begun
+# a game that is left to the recursion, which takes for ever, since no slice of it takes a step; and the slices that were begun
 ENDLESS = f"""import os, signal, subprocess, sys, threading, time
 sys.path.append({os.path.dirname(plain.__file__)!r})
 import pgboard, test_pgboard
@@ -25,7 +25,8 @@ ENDLESS = test_pgboard.lists_of(test_pgboard.plain.ladder(40))
 TAKEN, take = [], pgboard.library.Handle.advance
 def counted(self, steps):
     TAKEN.append(threading.get_ident())
-    return take(self, steps)
+    return take(self, min(steps, counted.most))
+counted.most = 0
 pgboard.library.Handle.advance = counted
 def wait_for(holds):
     ends = time.monotonic() + 40
@@ -44,7 +45,6 @@ def interrupt():
 
 
 def outcome_of(call):
-    """What a call returns, or the fault that it raises."""
     try:
         return call()
     except pgboard.Fault as fault:
@@ -74,15 +74,16 @@ class Calls(Tests):
             "            late.append(time.monotonic() - interrupt.sent)\n"
             "            print(late[-1] < 10, wait_for(lambda: threading.active_count() == 1))\n"
             "    print(min(late) < 1)\n"
-            "for limits in ({'steps': 1000}, {'timeout': 0.2}):\n"
+            "for limits in ({'timeout': 0.2}, {'steps': 10}):\n"
             "    try:\n"
+            "        counted.most = limits.get('steps', 0)\n"
             "        board.finish(**limits)\n"
             "    except (pgboard.GaveUp, pgboard.TimedOut) as error:\n"
             "        print(error, len(board.unsettled()) + board.settled == len(ENDLESS[0]))\n"
         )
         # (other work on the machine may take a second once, and not four times)
         gave_up, timed_out = f"{pgboard.GaveUp()} True\n", f"{pgboard.TimedOut()} True\n"
-        wanted = ("True True\n" * 4 + "True\n") * 3 + gave_up + timed_out
+        wanted = ("True True\n" * 4 + "True\n") * 3 + timed_out + gave_up
         self.assertEqual(self.run_of(program), wanted)
 
     def test_no_child_is_made_and_no_signal_is_sent(self):
@@ -115,7 +116,6 @@ class Calls(Tests):
             self.refused(pgboard.Cancelled, 0, 0, pgboard.solve, *game, cancel=cancel)
 
     def calls(self, file):
-        """Each call that may take long, on one large game, and what it returns."""
         size, claims = 200, ([0] * 200, [0] * 200)
         csr = bytes(size), [0] * size, list(range(size + 1)), [0] * size
         text = "".join(f"{v} 0 0 0;" for v in range(size))
@@ -185,11 +185,7 @@ class Boards(Tests):
 
 
 class Slices(Tests):
-    """The loop over slices, by a clock of the test."""
-
     def counting(self, needed, searches=3):
-        """Slices of some searches and then so many steps, as the library's."""
-
         def take(steps):
             take.given.append(steps)
             if len(take.given) <= searches:

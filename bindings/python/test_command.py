@@ -1,19 +1,12 @@
-"""Tests of `python3 -m pgboard` over the library, by unittest: answers, time limits, progress. tests/uses.py
-tests all else of it.
-"""
+"""Tests of `python3 -m pgboard` over the library, by unittest; tests/uses.py has all others."""
 
-import contextlib
-import io
 import json
 import os
 import pathlib
-import pty
-import random
 import re
 import signal
 import subprocess
 import sys
-import tempfile
 import time
 import unittest
 import unittest.mock
@@ -21,99 +14,50 @@ import unittest.mock
 import pgboard
 
 sys.path.append(str(pathlib.Path(__file__).resolve().parent.parent.parent / "tests"))
+import common
 import plain
-from pgboard import command
-from pgboard.command import engine, words
+import scripts
+import uses
+from pgboard.command import engine
 
-# what signals do in a command they do not do here
-signal.signal(signal.SIGINT, signal.default_int_handler)
-command.on_signals = lambda *handler: None
-COMMAND = [sys.executable, "-B", os.path.join(os.path.dirname(pgboard.__file__))]
 LIBRARY = {"PGBOARD_LIBRARY": pgboard.library.path_of_library()}
+# the command, whose search goes on for ever, since no slice of the recursion takes a step
+ENDLESS = f"""import _signal, sys
+_signal.signal(_signal.SIGINT, _signal.SIG_DFL)
+sys.path.insert(0, {str(scripts.BINDINGS)!r})
+from pgboard import library
+take = library.Handle.advance
+library.Handle.advance = lambda handle, steps: take(handle, 0)
+from pgboard.command import run
+from pgboard.command.words import main
+run("pgboard", main)
+"""
 
 
-def random_game(chance):
-    """A random game with any identifiers: (priority, owner, successors) of each, as those of plain.py."""
-    ids = sorted(chance.sample(range(99), chance.randint(1, 9)))
-    row = lambda: set(chance.choices(ids, k=chance.randint(1, 3)))
-    return {id: (chance.randrange(2 * len(ids)), chance.randrange(2), row()) for id in ids}
+def endless(*given):
+    return [sys.executable, "-B", "-c", ENDLESS, *given]
 
 
-def lines_of(rows):
-    """A line for each vertex of a solution, or of a part of one."""
-    return "\n".join(
-        f"{id} {winner}{'' if choice is None else f' {choice}'};" for id, (winner, choice) in rows.items()
-    )
+class Command(uses.Solve):
+    has_entries = True
 
+    @classmethod
+    def setUpClass(cls):
+        patch = unittest.mock.patch.dict(os.environ, LIBRARY)
+        patch.start()
+        cls.addClassCleanup(patch.stop)
+        engine.engine.cache_clear()
+        cls.addClassCleanup(engine.engine.cache_clear)
 
-class Command(unittest.TestCase):
-    def setUp(self):
-        folder = tempfile.TemporaryDirectory()
-        self.addCleanup(folder.cleanup)
-        self.folder = pathlib.Path(folder.name)
-        with unittest.mock.patch.dict(os.environ, LIBRARY):
-            self.assertIsInstance(engine.engine(), engine.Library)
+    def run_command(self, word, *given, **env):
+        return self.texts_of([*scripts.command_of(word), *given], **env)
 
-    def file(self, name, text):
-        path = self.folder / name
-        path.write_bytes(text if isinstance(text, bytes) else text.encode())
-        return str(path)
-
-    def call(self, *given):
-        """The status and the output of the command in this process."""
-        out = io.TextIOWrapper(io.BytesIO(), "utf-8")
-        with contextlib.redirect_stdout(out), contextlib.redirect_stderr(io.StringIO()):
-            status = words.main(list(given)) or 0
-        out.flush()
-        return status, out.buffer.getvalue().decode()
-
-    def run_command(self, *given, err=subprocess.PIPE, **env):
-        how = {"stdin": subprocess.DEVNULL, "stdout": subprocess.PIPE, "text": True, "timeout": 60}
-        env = {**os.environ, **LIBRARY, **env}
-        ran = subprocess.run([*COMMAND, *given], stderr=err, env=env, check=False, **how)
-        return ran.returncode, ran.stdout, ran.stderr
-
-    def test_random_games(self):
-        """The winners are the definition's, the solution holds, and a damaged one has their verdict.
-
-        Of a part of that one which does not hold, the first fault is named, with the line of its vertex.
-        """
-        kinds = set()
-        for seed in range(200):
-            chance = random.Random(seed)
-            game = random_game(chance)
-            path, id = self.file("game.pg", plain.written_game(game)), chance.choice(list(game))
-            with self.subTest(game=game):
-                status, out = self.call("solve", path)
-                self.assertEqual((status, plain.written_fault(game, out.encode())), (0, None))
-                winner = plain.recursion(game)[0][id]
-                self.assertEqual(self.call("winner", "--vertex", str(id), path)[0], winner)
-                rows = plain.solution_of(game, out.encode())
-                wrong = {**rows, id: (chance.randrange(2), chance.choice([None, *game]))}
-                said = plain.verdict(game, wrong)
-                solution = self.file("game.sol", lines_of(wrong))
-                self.assertEqual(self.call("verify", path, solution), (int(said != "ok\n"), said))
-                known = {id: row for id, row in wrong.items() if chance.random() < 0.7}
-                kinds.add(self.takes_what_is_known(game, path, known))
-        self.assertEqual(len(kinds), 5, kinds)
-
-    def takes_what_is_known(self, game, path, known):
-        """What is known is kept where it holds. Returns the kind of its first fault, or None."""
-        part, why = self.file("part.sol", lines_of(known)), next(plain.known_faults(game, known), None)
-        if why is None:
-            found = plain.solution_of(game, self.call("solve", "--known", part, path)[1].encode())
-            self.assertEqual([found[id][0] for id in known], [winner for winner, _ in known.values()])
-            return None
-        with self.assertRaises(command.Refused) as caught:
-            self.call("solve", "--known", part, path)
-        line = 1 + list(known).index(int(re.search(r"\d+", why)[0]))
-        self.assertEqual(
-            (str(caught.exception), caught.exception.status), (f"{part}:{line}:1: known: {why}", 1)
-        )
-        return re.sub(r"\d+", "", why)
+    def texts_of(self, command, **env):
+        status, *texts = common.run(command, env={**os.environ, **env})
+        return (status, *(it.decode() for it in texts))
 
     def hard(self):
-        """A game that takes the recursion for ever, and beside it vertices that are settled at once."""
+        """A game that is left to the recursion, and beside it vertices that are settled at once."""
         ladder = plain.ladder(40)
         easy = {len(ladder) + v: (v % 2, 0, {len(ladder) + v}) for v in range(9)}
         return {**ladder, **easy}, {id: (row[0], id if row[0] == 0 else None) for id, row in easy.items()}
@@ -124,7 +68,7 @@ class Command(unittest.TestCase):
         """
         game, easy = self.hard()
         path = self.file("game.pg", plain.written_game(game))
-        limited = lambda *words: self.run_command("solve", "--timeout", "0.5", *words, path)
+        limited = lambda *words: self.texts_of(endless("solve", "--timeout", "0.5", *words, path))
         status, out, err = limited()
         self.assertEqual((status, out), (6, ""))
         self.assertRegex(err, r"\Apgboard: after 0.5 s \d+ of 209 vertices are settled\n\Z")
@@ -141,22 +85,22 @@ class Command(unittest.TestCase):
         self.assertEqual((status, found["is_whole"]), (6, False))
         rows = {it["vertex"]: (it["winner"], it["choice"]) for it in found["solution"]}
         self.assertLessEqual(easy.items(), rows.items())
-        self.assertEqual(self.run_command("winner", "--timeout", "0.2", "--vertex", "0", path)[:2], (6, ""))
+        left = str(min(game.keys() - known.keys()))
+        ended = self.texts_of(endless("winner", "--timeout", "0.2", "--vertex", left, path))
+        self.assertEqual(ended[:2], (6, ""))
+        # (what is settled at once needs no more)
+        for vertex, (winner, choice) in easy.items():
+            words = "winner", "--reach", "--vertex", str(vertex), path
+            row = f"{vertex} {winner}{'' if choice is None else f' {choice}'}"
+            self.assertEqual(self.texts_of(endless(*words)), (winner, f"paritysol {vertex};\n{row};\n", ""))
 
     def test_progress_on_a_terminal(self):
         """A line says how many vertices are settled, of how many, and for how long; it is gone at the end."""
         game, easy = self.hard()
-        ours, theirs = pty.openpty()
         path = self.file("game.pg", plain.written_game(game))
-        self.assertEqual(self.run_command("solve", "--timeout", "2", path, err=theirs)[0], 6)
-        os.write(theirs, b"end")
-        said = b""
-        while not said.endswith(b"end"):
-            said += os.read(ours, 65536)
-        os.close(ours)
-        os.close(theirs)
-        first, *lines, last = said.decode()[: -len("end")].split("\r\x1b[K")
-        self.assertEqual(first, "")
+        ran, said = common.at_terminal(endless("solve", "--timeout", "2", path))
+        first, *lines, last = said.decode().split("\r\x1b[K")
+        self.assertEqual((ran.returncode, first), (6, ""))
         found = [re.fullmatch(r"pgboard: (\d+) of 209 vertices settled, (\d+) s", it) for it in lines]
         self.assertTrue(3 < len(found) <= 12)
         settled, seconds = zip(*[map(int, it.groups()) for it in found])
@@ -175,9 +119,9 @@ class Command(unittest.TestCase):
 
     def test_an_interrupt(self):
         """It ends a search at once, as the signal that it is, without a word."""
-        given = [*COMMAND, "solve", self.file("game.pg", plain.written_game(self.hard()[0]))]
+        given = endless("solve", self.file("game.pg", plain.written_game(self.hard()[0])))
         with subprocess.Popen(
-            given, stdout=subprocess.PIPE, stderr=subprocess.PIPE, env={**os.environ, **LIBRARY}
+            given, stdout=subprocess.PIPE, stderr=subprocess.PIPE
         ) as process:
             time.sleep(1)
             begun = time.monotonic()
@@ -186,61 +130,6 @@ class Command(unittest.TestCase):
                 (process.communicate(timeout=20), process.returncode), ((b"", b""), -signal.SIGINT)
             )
             self.assertLess(time.monotonic() - begun, 2)
-
-    # what `stats` says of the game of these tests, as text and as JSON
-    NUMBERS = {
-        "vertices": 3,
-        "edges": 4,
-        "owners": {"Even": 1, "Odd": 2},
-        "priorities": {"least": 1, "greatest": 4, "different": 3},
-        "own loops": 2,
-        "greatest degrees": {"out": 2, "in": 2},
-        "components": {"number": 3, "greatest": 1, "least": 1},
-    }
-    STATS = "vertices: 3\nedges: 4\nowners: Even 1, Odd 2\n"
-    STATS += "priorities: least 1, greatest 4, different 3\nown loops: 2\n"
-    STATS += "greatest degrees: out 2, in 2\ncomponents: number 3, greatest 1, least 1\n"
-
-    def test_json_and_statistics(self):
-        path = self.file("game.pg", 'parity 2;\n5 2 0 5,9 "a";\n9 1 1 9;\n7 4 1 5;\n')
-        wrong = self.file("wrong", "5 0 9; 9 1 9; 7 0;")
-        self.assertEqual(json.loads(self.call("stats", "--json", path)[1]), self.NUMBERS)
-        self.assertEqual(self.call("stats", path), (0, self.STATS))
-        found = json.loads(self.call("solve", "--json", "--stats", "--keep-names", path)[1])
-        rows = [
-            {"vertex": 5, "winner": 0, "choice": 5, "name": "a"},
-            {"vertex": 7, "winner": 0, "choice": None},
-            {"vertex": 9, "winner": 1, "choice": 9},
-        ]
-        self.assertTrue(0 <= found["stats"].pop("seconds") < 9 and 1 <= found["stats"].pop("entries") <= 3)
-        stats = {**self.NUMBERS, "winners": {"Even": 2, "Odd": 1}}
-        self.assertEqual(found, {"is_whole": True, "solution": rows, "stats": stats})
-        status, out, err = self.run_command("solve", "--stats", path)
-        self.assertEqual((status, out), (0, "paritysol 9;\n5 0 5;\n7 0;\n9 1 9;\n"))
-        more = r"winners: Even 2, Odd 1\nseconds: [0-9.]+\nentries: [123]\n"
-        self.assertRegex(err, rf"\A{re.escape(self.STATS)}{more}\Z")
-        said = {"is_solution": False, "fault": "5 leaves to 9"}
-        won = {"vertex": 7, "winner": 0}
-        for status, wanted, *asked in (
-            (1, said, "verify", path, wrong),
-            (0, won, "winner", "--vertex", "7", path),
-            (0, {**won, "reach": [5, 7]}, "winner", "--reach", "--vertex", "7", path),
-        ):
-            self.assertEqual(self.call(*asked, "--json"), (status, json.dumps(wanted) + "\n"))
-
-    def test_components_of_random_games(self):
-        """They are those of mutual reachability."""
-        for seed in range(100):
-            game = random_game(random.Random(seed))
-            reach = {id: {id} for id in game}
-            for _ in game:
-                reach = {id: them.union(*(game[it][2] for it in them)) for id, them in reach.items()}
-            parts = {frozenset(to for to in reach[id] if id in reach[to]) for id in game}
-            path = self.file("game.pg", plain.written_game(game))
-            found = json.loads(self.call("stats", "--json", path)[1])
-            sizes = list(map(len, parts))
-            wanted = {"number": len(sizes), "greatest": max(sizes), "least": min(sizes)}
-            self.assertEqual(found["components"], wanted, game)
 
 
 if __name__ == "__main__":

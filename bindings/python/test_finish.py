@@ -20,14 +20,16 @@ ENDS = pgboard.GaveUp, pgboard.TimedOut
 
 
 class Finishing(unittest.TestCase):
-    def slices(self, act=lambda count: None):
-        """Counts the slices of all boards to the end of the test, and acts before each."""
+    def slices(self, act=lambda count: None, most=2**64 - 1):
+        """Counts the slices of all boards to the end of the test, and acts before each. None takes more than so many steps:
+        without a step the recursion goes on for ever.
+        """
         taken, take = [], library.Handle.advance
 
         def counted(handle, steps):
             act(len(taken))
             taken.append(threading.get_ident())
-            found = take(handle, steps)
+            found = take(handle, min(steps, most))
             self.steps += found.steps
             return found
 
@@ -38,10 +40,10 @@ class Finishing(unittest.TestCase):
 
     def test_a_call_goes_on_where_one_has_ended(self):
         views = []
-        self.slices()
-        for way in ({}, {"steps": 1000}, {"timeout": 0.003}):
+        self.slices(lambda count: time.sleep(0.001))
+        for way in ({}, {"steps": 50}, {"timeout": 0.003}):
             self.steps = 0
-            with pgboard.Board(*lists_of(plain.ladder(24))) as board:
+            with pgboard.Board(*lists_of(plain.ladder(100))) as board:
                 for ended in itertools.count():
                     try:
                         board.finish(**way)
@@ -63,7 +65,7 @@ class Finishing(unittest.TestCase):
                 self.calls += 1
                 return 1 if self.calls == 4 else true.pgboard_board_advance(*arguments)
 
-        true, game = library.LIBRARY, lists_of(plain.ladder(14))
+        true, game = library.LIBRARY, lists_of(plain.ladder(40))
         with mock.patch.object(library, "LIBRARY", Refusing()):
             with pgboard.Board([*game[0], 0], [*game[1], 2], [*game[2], [len(game[0])]]) as board:
                 with self.assertRaises(pgboard.OutOfMemory):
@@ -99,7 +101,7 @@ class Finishing(unittest.TestCase):
             self.assertEqual([(it.worker, it.player) for it in board.entries], [(7, player), (0, 1 - player)])
 
     def endless(self):
-        """A board of what the recursion does not end for, and beside it a vertex that Even wins at once."""
+        """A board that is left to the recursion, which gets no step, and beside it a vertex that Even wins at once."""
         owners, priorities, rows = lists_of(plain.ladder(40))
         return pgboard.Board([*owners, 0], [*priorities, 0], [*rows, [len(rows)]])
 
@@ -118,14 +120,14 @@ class Finishing(unittest.TestCase):
         return thread, raised
 
     def test_others_use_the_board_between_slices(self):
-        part, taken = lists_of(plain.ladder(22)), self.slices()
+        part = lists_of(plain.ladder(22))
         owners, priorities, rows = lists_of(plain.ladder(40))
         size = len(part[0])
+        won = [*zip(*pgboard.solve(*part), range(size))]
+        taken = self.slices(most=0)
         rows = [*part[2], *([size + to for to in row] for row in rows)]
         board, cancel = pgboard.Board(part[0] + owners, part[1] + priorities, rows), pgboard.Cancel()
-        won = zip(*pgboard.solve(*part), range(size))
         claim = {v: choice for winner, choice, v in won if winner == 0}
-        taken.clear()
         thread, raised = self.begun(lambda: board.finish(cancel=cancel))
         self.wait_for(lambda: len(taken) > 40)
         found = board.entries[:]
@@ -143,7 +145,7 @@ class Finishing(unittest.TestCase):
 
     def test_who_waits_for_the_board_goes_before_the_next_slice(self):
         for is_gone in (True, False):
-            order, board, wake = [], pgboard.Board(*lists_of(plain.ladder(14))), time.sleep
+            order, board, wake = [], pgboard.Board(*lists_of(plain.ladder(40))), time.sleep
 
             def pause(seconds, order=order, board=board, is_gone=is_gone):
                 wake(0)
@@ -174,7 +176,7 @@ class Finishing(unittest.TestCase):
             self.assertEqual(handle.advance(9), (True, 0, 2.5))
 
     def test_close_ends_finish(self):
-        taken = self.slices()
+        taken = self.slices(most=0)
         for count in (1, 2):
             board, begun = self.endless(), len(taken)
             threads = [self.begun(board.finish) for _ in range(count)]
@@ -187,7 +189,7 @@ class Finishing(unittest.TestCase):
                 self.assertEqual(raised, [pgboard.Closed])
 
     def test_a_cancel_of_one_call_leaves_the_other(self):
-        taken, first = self.slices(), self.endless()
+        taken, first = self.slices(most=0), self.endless()
         for second in (first, self.endless()):
             cancel, other = pgboard.Cancel(), pgboard.Cancel()
             one, ended = self.begun(lambda: first.finish(cancel=cancel))

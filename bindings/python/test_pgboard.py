@@ -55,14 +55,12 @@ def csr_of(owners, priorities, successors):
 
 
 def lists_of(game):
-    """A plain game as `solve` takes it."""
     number, rows = {id: v for v, id in enumerate(sorted(game))}, [game[id] for id in sorted(game)]
     successors = [sorted(map(number.get, it[2])) for it in rows]
     return [it[1] for it in rows], [it[0] for it in rows], successors
 
 
 def python(program, cwd=HERE, **env):
-    """Runs a program in a Python of its own, as the leader of a group of processes."""
     env = {name: value for name, value in {**os.environ, **env}.items() if value}
     how = {"stdout": subprocess.PIPE, "stderr": subprocess.PIPE, "text": True, "start_new_session": True}
     return subprocess.Popen([sys.executable, "-B", "-c", program], cwd=cwd, env=env, **how)
@@ -166,7 +164,7 @@ class Arrays(Tests):
                 self.assertEqual(pgboard.solve(*game, steps=steps), pgboard.solve(*game))
 
     def test_arguments_of_another_type_are_named(self):
-        whole, pair = "is an integer, not", "known: a pair of winners and choices is needed, not"
+        whole, pair = "has to be an integer, not", "known: a pair of winners and choices is needed, not"
         for at, name in enumerate(("owners", "priorities", "successors")):
             self.says(f"{name}: a list is needed, not int", pgboard.solve, *with_one(TWO, at, 5))
         for said, at, wrong in (
@@ -193,7 +191,6 @@ class Arrays(Tests):
 
 class Buffers(Tests):
     def forms(self):
-        """The same game as buffers of each kind that is taken."""
         numbers = list(map(list, CSR))
         yield CSR
         yield numbers
@@ -291,7 +288,7 @@ class Buffers(Tests):
             said = f"vertices: {needed} {type(wrong).__name__}"
             self.says(said, pgboard.Board(*TWO).post_arrays, 0, wrong, b"")
         for at, wrong in itertools.product(range(4), ([1.5, 0], ["0", "1"], [None])):
-            said = rf"{NAMES[at]}\[0\] is an integer, not {type(wrong[0]).__name__}"
+            said = rf"{NAMES[at]}\[0\] has to be an integer, not {type(wrong[0]).__name__}"
             self.says(said, pgboard.solve_csr, *with_one(CSR, at, wrong))
 
     def matrices(self, rows, width):
@@ -411,15 +408,15 @@ class Package(Tests):
 
     @unittest.skipUnless(os.path.exists(os.path.join(HERE, "pyproject.toml")), "pyproject.toml is not here")
     def test_the_least_python_can_read_it(self):
-        said = pathlib.Path(HERE, "pyproject.toml").read_text(encoding="utf-8")
+        said = pathlib.Path(HERE, "pyproject.toml").read_text()
         least = int(re.search(r'requires-python = ">=3\.(\d+)"', said)[1])
         for path in pathlib.Path(pgboard.__file__).parent.rglob("*.py"):
-            ast.parse(path.read_text(encoding="utf-8"), feature_version=(3, least))
+            ast.parse(path.read_text(), feature_version=(3, least))
 
     def test_examples(self):
         self.assertEqual(doctest.testmod(pgboard), (0, 2))
         self.assertEqual(doctest.testmod(pgboard.board), (0, 1))
-        page = pathlib.Path(HERE, "README.md").read_text(encoding="utf-8")
+        page = pathlib.Path(HERE, "README.md").read_text()
         blocks = re.findall(r"(?ms)^```text\n(>>> .*?)^```$", page)
         parse = doctest.DocTestParser().get_doctest
         examples = [parse(it, {"pgboard": pgboard}, "README.md", None, 0) for it in blocks]
@@ -459,7 +456,7 @@ class Loading(Tests):
     CALL = "import pgboard; print(pgboard.library.LIBRARY._name, pgboard.solve([0], [0], [[0]]))"
 
     def test_an_import_without_the_library_says_what_to_do(self):
-        page = pathlib.Path(HERE, "README.md").read_text(encoding="utf-8")
+        page = pathlib.Path(HERE, "README.md").read_text()
         commands = re.findall(r"(?m)^(\(cd crates.*|cc -shared.*)$", page)
         for path in ("/nowhere/libpgboard.so", ctypes.util.find_library("c") or "libc.so.6"):
             run = python("import pgboard.command\nfrom pgboard import solve", PGBOARD_LIBRARY=path)

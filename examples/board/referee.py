@@ -68,12 +68,10 @@ class Table:
     """A game on a board, and the identifiers of its vertices."""
 
     def __init__(self, game):
-        self.ids, self.text = sorted(game.rows), pgboard.tidy_text(plain(game).written())
-        self.number, rows = {id: v for v, id in enumerate(self.ids)}, [game.rows[id] for id in self.ids]
-        self.owners = [row[1] for row in rows]
-        self.board = pgboard.Board(
-            self.owners, [row[0] for row in rows], ([self.number[to] for to in row[2]] for row in rows)
-        )
+        self.text = pgboard.tidy_text(plain(game).written())
+        self.ids, *arrays = game.arrays()
+        self.number, self.owners = {id: v for v, id in enumerate(self.ids)}, arrays[0]
+        self.board = pgboard.Board.from_csr(*arrays)
 
     def is_full(self):
         return self.board.settled == len(self.ids)
@@ -87,7 +85,7 @@ class Table:
         parts = {}, {}
         for id, (winner, choice) in solution_of("output", text[: text.rfind(";") + 1] or text).rows.items():
             if id not in self.number:
-                raise Refused(f"vertex {id} is not in the game")
+                raise Refused(f"vertex {id}: not in the game")
             is_chosen = choice is not None and self.owners[self.number[id]] == winner
             parts[winner][self.number[id]] = self.number.get(choice, NO_VERTEX) if is_chosen else None
         return parts
@@ -230,19 +228,27 @@ class Referee:
         except OSError as error:
             self.say(f"{solver.name()}: {error.filename or solver.command}: {error.strerror}")
             return
+        parts = self.read(text)
         with self.lock:
             after = f"{solver.name()}: {solver.how_it_ended()}, {time.monotonic() - self.begun:.1f} s"
-            self.say(f"{after}: {self.post_all(solver.worker, text)}")
+            self.say(f"{after}: {self.post_all(solver.worker, parts)}")
             if self.game.is_full():
                 for it in self.solvers:
                     it.end("ended, since the board is full")
 
-    def post_all(self, worker, text):
-        """Posts each player's part, and says what became of it."""
+    def read(self, text):
+        """What each player is said to win, or why that can't be read."""
         try:
-            parts = self.game.parts_of(text)
+            return self.game.parts_of(text)
         except Refused as refused:
             return str(refused)
+        except Exception as error:
+            return f"it can't be read: {error!r}"
+
+    def post_all(self, worker, parts):
+        """Posts each player's part, and says what became of it."""
+        if isinstance(parts, str):
+            return parts
         said = [
             f"{PLAYERS[player]} {self.post(worker, player, part)}"
             for player, part in enumerate(parts)

@@ -4,6 +4,12 @@ A clone has the package in bindings/python; elsewhere it is installed. A script 
 all that takes time to load.
 """
 
+# (`signal` takes long to load, and Ctrl-C may come meanwhile)
+import _signal
+
+if _signal.getsignal(_signal.SIGINT) != _signal.SIG_IGN:
+    _signal.signal(_signal.SIGINT, _signal.SIG_DFL)
+
 import os
 import sys
 
@@ -11,6 +17,8 @@ sys.path.insert(1, os.path.join(os.path.dirname(os.path.abspath(__file__)), ".."
 try:
     import pgboard.command  # noqa: F401
 except ImportError:
-    sys.exit(
-        "the Python package pgboard is not here: install its wheel, or run this in a clone of the repository"
+    print(
+        "the Python package pgboard is not here: install its wheel, or run this in a clone of the repository",
+        file=sys.stderr or open(os.devnull, "w"),
     )
+    sys.exit(4)

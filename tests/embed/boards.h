@@ -101,7 +101,9 @@ static inline void random_game(uint64_t *seed)
     }
 }
 
-/* The recursive ladder (Friedmann 2011), on which the recursion takes time exponential in the levels. */
+/* The recursive ladder (Friedmann 2011), on which a recursion that keeps nothing takes time exponential in the levels. The
+ * number of steps is that of `Recursion` in tests/plain.py for what the searches leave: no dominion of at most four vertices. */
+#define STEPS_OF_26_LEVELS 85
 static inline void ladder(uint32_t levels)
 {
     uint32_t a = 0, b = levels, c = 2 * levels, d = 3 * levels, e = 4 * levels, to = 0;

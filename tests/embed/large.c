@@ -1,6 +1,6 @@
 /* Games of many vertices: two on which the recursion alone takes a time that is quadratic in their size, one that is left to the
- * recursion, random ones on which it alone takes more steps than anyone waits for, and the memory that a call asks for. The library
- * searches first, as the program does. One board is finished part by part, by short calls. */
+ * recursion, random ones with one or two edges at each vertex, and the memory that a call asks for. The library searches first, as the
+ * program does. One board is finished part by part, by short calls. */
 #include <pthread.h>
 #include <string.h>
 #include <time.h>

@@ -7,11 +7,9 @@
 Vertices are 0, 1 and so on. Player 0 is Even, who wins a play where the greatest priority seen again and
 again is even.
 
-The library is the file that the environment variable PGBOARD_LIBRARY names, else libpgboard.so beside this
-file, as the wheel of ./package has it, else crates/pgboard_c/out/libpgboard.so of the repository, else the
-one of the system. The first use of the package loads it. Without one that is an ImportError, which says what
-to do. A call that solves works in slices, and between two of them Python handles signals. So Ctrl-C ends
-such a call of the main thread, and `timeout` and `cancel` those of any thread.
+The first use of a call loads the library, which PGBOARD_LIBRARY may name. Without one that is an ImportError,
+which says what to do. Ctrl-C ends a call of the main thread that solves, and `timeout` and `cancel` end those
+of any thread.
 """
 
 from .version import __version__  # noqa: F401

@@ -111,8 +111,9 @@ class Board:
     def _turn(self) -> Iterator[None]:
         """Has the board to itself meanwhile."""
         me = threading.get_ident()
-        self._users.add(me)
         try:
+            # (an interrupt may come after each of these lines)
+            self._users.add(me)
             with self._lock:
                 yield
         finally:

@@ -13,6 +13,7 @@ from .arrays import (
 )  # fmt: skip
 from .board import Board, Entries, Entry, Posted
 from .faults import *  # noqa: F401,F403
+from .files import read_game
 from .library import NO_CHOICE, NO_WINNER, bound, owned, run, written
 from .native import span_of, struct_of
 from .slices import Cancel, limits_of
@@ -20,7 +21,7 @@ from .solving import blank_text, solve_arrays, solve_bytes
 from .version import __version__
 
 __all__ = [
-    "NO_CHOICE", "NO_WINNER", "Board", "Buffer", "Cancel", "Entries", "Entry", "Posted", "Solution", "__version__", "solve", "solve_csr",
+    "NO_CHOICE", "NO_WINNER", "Board", "Buffer", "Cancel", "Entries", "Entry", "Posted", "Solution", "__version__", "read_game", "solve", "solve_csr",
     "solve_file", "solve_graph", "solve_text", "tidy_text", "verify", "verify_csr", "verify_text", *faults.__all__,
 ]  # fmt: skip
 
@@ -46,7 +47,7 @@ def solve_csr(
     the winners and of their choices, which have NO_CHOICE where the winner doesn't own the vertex.
 
     `known` has winners (NO_WINNER where there is none) and choices in the same form. `steps` bounds
-    Zielonka's recursion, which takes exponential time on some games: GaveUp is raised if it begins more
+    Zielonka's recursion, which has an exponential bound: GaveUp is raised if it begins more
     subgames. There may not be both. With `dead_ends` a vertex without successors is lost by its owner. With
     `least` the least priority that is seen again and again decides.
 

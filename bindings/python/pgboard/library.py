@@ -72,7 +72,7 @@ def index_of(name: str, value: Any) -> int:
     try:
         return operator.index(value)
     except TypeError:
-        raise TypeError(f"{name} is an integer, not {type(value).__name__}") from None
+        raise TypeError(f"{name} has to be an integer, not {type(value).__name__}") from None
 
 
 def bound(steps: Optional[int]) -> Optional[int]:

@@ -4,6 +4,7 @@ pub mod Distinct
 pub mod Lawful
 pub mod Dominion
 pub mod Numbers
+pub mod UnsettledNumber
 pub mod Copies
 pub mod Places
 pub mod OwnEntries

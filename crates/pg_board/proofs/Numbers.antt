@@ -16,10 +16,10 @@ use Rattle.pg_board.proofs.Distinct.{AllRows, distinct-append, each_settled, eac
 pub lawful_now : (g : Graph) (j : Journal) → IsLawful g j → IsLawfulState g (state_of j)
 lawful_now g j lawful = subst (λ xs. IsLawfulState g (state_of xs)) (take-length j) (lawful.states (length j) (omega arith))
 
-abbrev Settled : Journal → List ℕ
+abbrev pub Settled : Journal → List ℕ
 Settled j = vertices (AllRows j)
 
-number_is : (j : Journal) → number_settled j ≡ length (Settled j)
+pub number_is : (j : Journal) → number_settled j ≡ length (Settled j)
 number_is j = sym (length-map (AllRows j) (λ (r : ℕ × Option ℕ). r.0) ∙ length-flat_map (λ (e : Entry). e.rows) j)
 
 pub in_vertices : (rows : ClaimRows) (v : ℕ) → list_any (nat_eq v) (vertices rows) ≡ named rows v
@@ -27,7 +27,7 @@ in_vertices [] v = refl
 in_vertices (r ∷ rows) v = search (rules, in_vertices rows v, eq-eqb, eqb-true)
 
 -- the rows name the settled vertices
-settled_vertices : (j : Journal) (v : ℕ) → list_any (nat_eq v) (Settled j) ≡ not (is_unsettled (state_of j v))
+pub settled_vertices : (j : Journal) (v : ℕ) → list_any (nat_eq v) (Settled j) ≡ not (is_unsettled (state_of j v))
 settled_vertices [] v = refl
 settled_vertices (e ∷ es) v = search (rules, settled_vertices es v, map-append, list_any-append, in_vertices)
 
@@ -36,7 +36,7 @@ whose None h = absurd (cc h)
 whose (Some r) h = (r.0, is_same r.0 r.0 refl)
 
 module _ (g : Graph) (j : Journal) (lawful : IsLawful g j) where
-  below : (q : ℕ) → list_any (nat_eq q) (Settled j) ≡ true → q < length g
+  pub below : (q : ℕ) → list_any (nat_eq q) (Settled j) ≡ true → q < length g
   below q i =
       let w = whose (state_of j q) (sym (settled_vertices j q) ∙ i) in
       ltb-true q (length g) (((lawful_now g j lawful).regions w.0).vertices q w.1)

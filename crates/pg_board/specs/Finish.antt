@@ -1,12 +1,13 @@
 -- What the calling thread adds to a board, as worker 0.
-use Rattle.std.specs.Prelude.{ℕ, ◌≡◌, ◌≤◌, ◌++◌, Bool, true, false, List, Option, Result, length, map, filter, IsSome, IfOk, OnErr}
+use Rattle.std.specs.Prelude.{ℕ, ◌≡◌, ◌<◌, ◌≤◌, ◌-◌, ◌++◌, Bool, true, false, List, Option, None, Some, Result, length, map, filter, IfOk, OnErr}
 use Rattle.std.specs.List.{AllByRecursion}
 use Rattle.pg_game.specs.declared.player.Player.{Player}
+use Rattle.pg_finders.specs.Steps.{steps}
 use Rattle.pg_board.specs.declared.journal.Entry.{Entry}
 use Rattle.pg_board.specs.BoardRecord.{BoardRecord}
 use Rattle.std.specs.declared.alloc.AllocError.{AllocError}
 use Rattle.pg_board.specs.Full.{IsFull}
-use Rattle.pg_board.specs.Journal.{Journal, state_of, IsLawful}
+use Rattle.pg_board.specs.Journal.{Journal, state_of, number_settled, IsLawful}
 
 -- entries of worker 0, at most one for each of the players, in their order
 pub record AreOfCaller (players : List Player) (entries : Journal) : Type 0 where
@@ -29,6 +30,14 @@ pub record IsContinued (old new : BoardRecord) : Type 0 where
   pub journal : new.journal ≡ old.journal ++ added
   pub worker : AllByRecursion (λ e. e.worker ≡ 0) added
 
+abbrev pub number_unsettled : BoardRecord → ℕ
+number_unsettled b = length b.graph - number_settled b.journal
+
+-- with n vertices to settle, a call may give up under the limit of steps: there is one, and it is below the most that n vertices take
+abbrev pub MayGiveUp : Option ℕ → ℕ → Type 0
+MayGiveUp None n = ⊥
+MayGiveUp (Some k) n = k < steps n
+
 -- what a board answers that is to settle all, and what it then is: all is settled, or it is as before
 pub record IsFinishAnswer (limit : Option ℕ) (old new : BoardRecord) (result : Result Bool AllocError) : Type 0 where
   pub lawful : IsLawful new.graph new.journal
@@ -37,5 +46,5 @@ pub record IsFinishAnswer (limit : Option ℕ) (old new : BoardRecord) (result :
   pub continued : IfOk result (λ done. done ≡ true → IsContinued old new)
   pub gave_up : IfOk result (λ done. done ≡ false → new ≡ old)
   pub unsettled : IfOk result (λ done. done ≡ false → IsFull old.graph (state_of old.journal) → ⊥)
-  pub limited : IfOk result (λ done. done ≡ false → IsSome limit)
+  pub limited : IfOk result (λ done. done ≡ false → MayGiveUp limit (number_unsettled old))
   pub unchanged : OnErr result (new ≡ old)

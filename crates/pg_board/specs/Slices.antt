@@ -1,5 +1,5 @@
 -- A bound on the slices that a session still takes.
-use Rattle.std.specs.Prelude.{ℕ, ◌+◌, ◌-◌, length}
+use Rattle.std.specs.Prelude.{ℕ, ◌≡◌, ◌+◌, ◌-◌, ◌<◌, ◌≤◌, length}
 use Rattle.pg_game.specs.Graph.{Graph}
 use Rattle.pg_finders.specs.Steps.{steps}
 use Rattle.pg_board.specs.Work.{total_of}
@@ -14,3 +14,8 @@ slices_left g (stage.Recursion r) = r.remaining
 -- the most slices that n vertices take
 abbrev pub most_slices : ℕ → ℕ
 most_slices n = total_of 4 n + steps n
+
+-- the steps that a slice leaves where a vertex of n is still unsettled. It is a search if more slices remain than one and the most
+-- steps, and then it takes none; else it is one of the recursion, and uses all of them up
+abbrev pub IsCharged : ℕ → ℕ → ℕ → ℕ → Type 0
+IsCharged n slices old new = (1 + steps n < slices → new ≡ old) × (slices ≤ 1 + steps n → new ≡ 0)

@@ -1,14 +1,14 @@
 //! How a board settles all that is left, as worker 0: it posts what the searches of the standard finder find, and then what
 //! Zielonka's recursion (1998) finds in the rest. The board checks these claims as it checks any other.
 
-ghost use Rattle.std.specs.Prelude.{◌≡◌, ◌≢◌, ◌<◌, ◌∷◌, ℕ, [], length, IfOk, OnOk, IsSome, true, false};
+ghost use Rattle.std.specs.Prelude.{◌≡◌, ◌≢◌, ◌<◌, ◌∷◌, ℕ, [], length, IfOk, OnOk, true, false};
 ghost use Rattle.pg_game.specs.declared.player.Player.TheVariants.{Even, Odd};
 ghost use Rattle.pg_finders.specs.Claims.{AreClaims};
 ghost use Rattle.pg_board.specs.declared.journal.Refusal.{Refusal};
 ghost use Rattle.pg_board.specs.State.{unsettled};
 ghost use Rattle.pg_board.specs.Journal.{state_of, IsLawful, IsDominionAfter};
 ghost use Rattle.pg_board.specs.Full.{IsFull};
-ghost use Rattle.pg_board.specs.Finish.{IsContinued, IsLater, IsFinishAnswer};
+ghost use Rattle.pg_board.specs.Finish.{IsContinued, IsLater, IsFinishAnswer, MayGiveUp, number_unsettled};
 ghost use Rattle.pg_board.specs.private.Contents.{Settles};
 
 use crate::board::Board;
@@ -48,12 +48,14 @@ impl<'g> Board<'g> {
         ensures later { IsLater (Even ∷ Odd ∷ []) self.old self.new }
         ensures full { IfOk result (λ done. done ≡ true → IsFull self.new.graph (state_of self.new.journal)) }
         ensures gave_up { IfOk result (λ done. done ≡ false → self.new ≡ self.old) }
-        ensures limited { IfOk result (λ done. done ≡ false → IsSome limit) }
+        ensures limited { IfOk result (λ done. done ≡ false → MayGiveUp limit (number_unsettled self.old)) }
     {
         if self.contents.is_full(self.game) {
             return Ok(true);
         }
         let copied = self.copy(alloc)?;
+        // for the proof: the mask has the size of the graph
+        let _game = copied.inside.game();
         let Some(solved) = zielonka_within(alloc, &copied.inside, limit)? else {
             return Ok(false);
         };
@@ -66,7 +68,7 @@ impl<'g> Board<'g> {
         ensures lawful { IfOk result (λ _. IsLawful self.new.graph self.new.journal) }
         ensures continued { IsContinued self.old self.new }
         ensures full { IfOk result (λ done. done ≡ true → IsFull self.new.graph (state_of self.new.journal)) }
-        ensures limited { IfOk result (λ done. done ≡ false → IsSome limit) }
+        ensures limited { IfOk result (λ done. done ≡ false → MayGiveUp limit (number_unsettled self.old)) }
     {
         self.post_jobs(alloc)?;
         self.post_rest(alloc, limit)

@@ -7,7 +7,7 @@ ghost use Rattle.pg_board.specs.Full.{IsFull};
 ghost use Rattle.pg_board.specs.Board.{IsLawfulBoard, IsSolutionOf};
 ghost use Rattle.pg_board.specs.Finish.{IsContinued, IsFinishAnswer};
 ghost use Rattle.pg_board.specs.Post.{IsPostAnswer};
-ghost use Rattle.pg_board.specs.Slices.{most_slices};
+ghost use Rattle.pg_board.specs.Slices.{most_slices, IsCharged};
 ghost use Rattle.pg_board.specs.private.Contents.{IsContentsOf, board_record};
 
 use crate::advance::Stage;
@@ -100,6 +100,7 @@ impl Session {
         ensures steps { steps.new ≤ steps.old }
         ensures nearer { IfOk result (λ done. done ≡ false → 0 < steps.old → self.new.slices < self.old.slices) }
         ensures taken { IfOk result (λ done. done ≡ false → self.new.slices + (steps.old - steps.new) ≤ self.old.slices) }
+        ensures charged { IfOk result (λ done. done ≡ false → IsCharged (length self.old.board.graph) self.old.slices steps.old steps.new) }
     {
         let mut board = Board::attach(&self.game, self.contents.take().unwrap());
         let stage = replace(&mut self.stage, Stage::Search(0));

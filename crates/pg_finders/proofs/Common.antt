@@ -44,11 +44,11 @@ pub use Rattle.pg_finders.specs.declared.recursion.subgame.Plan.{Plan}
 pub use Rattle.pg_finders.specs.declared.recursion.Frame.{Frame}
 pub use Rattle.pg_finders.specs.private.Solved.{IsAttracted, IsBegun, IsSolvedInside, IsSolvedTo, Winners, WinsOn, won_inside}
 pub use Rattle.pg_finders.specs.private.loops.Singles.{itself, loops}
-pub use Rattle.pg_finders.specs.private.recursion.TakenVertices.{AttractsNoActive, Before, HasTaken, IsKnown, IsReady, IsTested, active_of, place, won_of}
+pub use Rattle.pg_finders.specs.private.recursion.TakenVertices.{AttractsNoActive, Before, HasTaken, IsReady, IsTested, active_of, place}
 pub use Rattle.pg_finders.specs.private.recursion.Listed.{Apart, Once, listed}
 pub use Rattle.pg_finders.specs.private.recursion.Order.{AllStand, AreDistinct, AreGreatest, AreVertices, IsLast, IsOrder, priority_at, vertex_at_place}
 pub use Rattle.pg_finders.specs.private.recursion.Plans.{HasBelow, IsGiven, SameAt, SameOutside, choices_of, winners_of}
-pub use Rattle.pg_finders.specs.private.recursion.SolverState.{AllPlaced, IsSolverState, how_many_gone, AreFewer, number_left}
+pub use Rattle.pg_finders.specs.private.recursion.SolverState.{IsSolverState, how_many_gone, AreFewer, number_left}
 pub use Rattle.pg_finders.specs.private.recursion.Settled.{SettledLists, settled_of}
 pub use Rattle.pg_finders.specs.private.recursion.OpenLevels.{AreApart, AreOpenLevels, Linked, count_at, gone, level_at, part, prefix}
 pub use Rattle.pg_finders.specs.private.recursion.Levels.{Level, AreLevels}

@@ -8,3 +8,4 @@ pub mod Rows
 pub mod RowsByPlace
 pub mod GoodClaims
 pub mod SolvedSubgames
+pub mod KeptSubgames

@@ -292,7 +292,7 @@ back_equal true false f = refl
 back_equal false true f = f refl
 back_equal false false f = refl
 
-module _ {g : Graph} {U L : VertexSet} {p : Player} {won : Winners} {s : Choices} (begun : IsBegun g U L p won s) where
+module _ {g : Graph} {U T L : VertexSet} {p : Player} {won : Winners} {s : Choices} (begun : IsBegun g U T L p won s) where
   abbrev A : VertexSet
   A = without U L
 
@@ -304,11 +304,10 @@ module _ {g : Graph} {U L : VertexSet} {p : Player} {won : Winners} {s : Choices
   left_subgame = IsSubgame-subst left_is (left_is_subgame begun.subgame begun.attracted)
 
   -- it stays begun while what is left is worked on
-  pub begun_same : (won' : Winners) (s' : Choices) → ((v : ℕ) → L v ≡ false → (won' v ≡ won v) × (s' v ≡ s v)) → IsBegun g U L p won' s'
+  pub begun_same : (won' : Winners) (s' : Choices) → ((v : ℕ) → L v ≡ false → (won' v ≡ won v) × (s' v ≡ s v)) → IsBegun g U T L p won' s'
   begun_same won' s' same = record {
     subgame = begun.subgame;
     within = begun.within;
-    target = begun.target;
     rank = begun.rank;
     above = begun.above;
     some = begun.some;
@@ -324,7 +323,7 @@ module _ {g : Graph} {U L : VertexSet} {p : Player} {won : Winners} {s : Choices
 
   -- the player won all that was left, so he wins all
   pub all_won : IsSolvedInside g L won s → ((v : ℕ) → In L v → won v ≡ p) → IsSolvedTo g U no_vertices won s
-  all_won solved his = solved_all g p U begun.target A won s begun.rank begun.above begun.attracted begun.chosen rest
+  all_won solved his = solved_all g p U T A won s begun.rank begun.above begun.attracted begun.chosen rest
       (λ v u. elim (cases_Bool (L v)) [ inl l ↦ his v l | inr n ↦ begun.his v (minus u n) ])
     where
       mine : (v : ℕ) → won_inside L won p v ≡ without U A v

@@ -25,7 +25,7 @@ steps_left n (f ∷ fs) = steps_after (n - (f.even + f.odd + f.set_aside)) + ste
 
 -- the number of vertices that are settled or set aside
 abbrev pub gone_from : Solver → ℕ
-gone_from x = length x.settled.even.items + length x.settled.odd.items + length x.set_aside.items
+gone_from x = length x.parts.settled.even.items + length x.parts.settled.odd.items + length x.set_aside.items
 
 -- the greatest number of steps that remain with these levels, for a whole of n vertices
 abbrev pub work : ℕ → Solver → List Frame → ℕ

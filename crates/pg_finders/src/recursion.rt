@@ -1,33 +1,39 @@
 //! Zielonka's recursion (1998), which solves a whole subgame by two claims, one for each player, as a loop: no function
 //! calls itself. Waiting subgames share three lists and keep places in them: the vertices set aside, and those settled for
-//! each player, in the order of settling. A step takes time in what it attracts and makes active again. A caller may bound the
-//! number of subgames that are begun, which is exponential on some games.
+//! each player. Where the opponent has won something of the rest of a subgame, what its player had won there stays won unless
+//! something has changed on which it rests (Lapauw, Bruynooghe and Denecker 2020; `parts` does that). A step takes time in what
+//! it attracts and makes active again. A caller may bound the number of subgames that are begun.
 
-ghost use Rattle.std.specs.Prelude.{◌≡◌, length, IfOk, ◌≢◌, ◌≤◌, ◌+◌, ◌<◌, ◌^◌, drop, take, ◌||◌, ℕ, All, ◌++◌, ◌∷◌, [], OnOk, true, false};
+ghost use Rattle.std.specs.Prelude.{◌≡◌, length, IfOk, ◌≢◌, ◌≤◌, ◌+◌, ◌<◌, ◌^◌, take, ◌||◌, ℕ, All, ◌++◌, ◌∷◌, [], OnOk, true, false};
 ghost use Rattle.std.specs.Prelude.{None, Some, IsNone, IsSome, IfSome};
 ghost use Rattle.pg_game.specs.declared.player.Player.TheVariants.{Even, Odd};
-ghost use Rattle.pg_game.specs.VertexSet.{In, members, union};
+ghost use Rattle.pg_game.specs.VertexSet.{In, Within, members, union};
 ghost use Rattle.pg_finders.specs.private.Solved.{won_inside, IsSolvedInside};
 ghost use Rattle.pg_finders.specs.private.recursion.Plans.{winners_of, choices_of, HasSize};
 ghost use Rattle.pg_finders.specs.Claims.{AreClaims, own_choices, rows_below};
 ghost use Rattle.pg_game.specs.Subgame.{IsSubgame};
 ghost use Rattle.pg_finders.specs.private.recursion.Listed.{listed};
-ghost use Rattle.pg_finders.specs.private.recursion.TakenVertices.{active_of, IsReady, IsKnown, HasTaken, AttractsNoActive, AttractsAtMost};
+ghost use Rattle.pg_finders.specs.private.recursion.TakenVertices.{active_of};
 ghost use Rattle.pg_game.specs.Player.{opponent};
-ghost use Rattle.std.specs.Borrow.{sem};
-ghost use Rattle.pg_finders.specs.private.recursion.Settled.{settled_of, LendsList};
+ghost use Rattle.pg_finders.specs.private.recursion.Settled.{settled_of};
 ghost use Rattle.pg_finders.specs.private.recursion.OpenLevels.{count_at};
-ghost use Rattle.pg_finders.specs.private.recursion.SolverState.{IsSolverState, how_many_gone, with_active, AreFewer, after_step, number_left};
+ghost use Rattle.pg_finders.specs.private.recursion.SolverState.{IsSolverState, how_many_gone, AreFewer, after_step, number_left};
+ghost use Rattle.pg_finders.specs.private.recursion.Parts.{AreParts};
+ghost use Rattle.pg_finders.specs.private.recursion.Shrunk.{aside_of, greatest_of, Loses, Shrinks, WaitsAgain, Waits, WinsBack, KeepsLists};
 ghost use Rattle.pg_finders.specs.Recursion.{IfSolved, IfRunning};
 ghost use Rattle.pg_finders.specs.Steps.{size, steps as most_steps, work};
 ghost use Rattle.std.specs.Arc.{arc_value};
 ghost use Rattle.pg_game.specs.private.VertexSet.{without};
 
 mod order;
+mod parts;
+mod settled;
 mod subgame;
 
 use crate::inside::{Inside, View, claim_of};
 use crate::recursion::order::Order;
+use crate::recursion::parts::{Parts, list_active};
+use crate::recursion::settled::Settled;
 use crate::recursion::subgame::{Plan, Subgame};
 use pg_dominion::{Claim, own_choice};
 use pg_game::{Game, Mask, Memory, Player};
@@ -59,6 +65,7 @@ pub fn zielonka_within(
 ) -> Result<Option<Solved>, Memory>
     ensures claims { IfOk result (λ found. IfSome found (λ solved. AreClaims inside.now.graph (members inside.now.mask) solved.even solved.odd)) }
     ensures unlimited { IfOk result (λ found. limit ≡ None → IsSome found) }
+    ensures enough { IfOk result (λ found. (k : ℕ) → limit ≡ Some k → most_steps (size inside.now.mask) ≤ k → IsSome found) }
     ensures nothing { IfOk result (λ found. ((v : ℕ) → members inside.now.mask v ≡ false) → IsSome found) }
     ensures no_steps { IfOk result (λ found. limit ≡ Some 0 → (v : ℕ) → In (members inside.now.mask) v → IsNone found) }
 {
@@ -75,6 +82,7 @@ pub fn zielonka_within(
 fn solve(alloc: Global, inside: &Inside, limit: Option<u64>) -> Result<Option<Solved>, Memory>
     ensures claims { IfOk result (λ found. IfSome found (λ solved. AreClaims inside.now.graph (members inside.now.mask) solved.even solved.odd)) }
     ensures unlimited { IfOk result (λ found. limit ≡ None → IsSome found) }
+    ensures enough { IfOk result (λ found. (k : ℕ) → limit ≡ Some k → most_steps (size inside.now.mask) ≤ k → IsSome found) }
     ensures no_steps { IfOk result (λ found. limit ≡ Some 0 → (v : ℕ) → In (members inside.now.mask) v → IsNone found) }
 {
     let view = inside.view();
@@ -162,12 +170,13 @@ impl Recursion {
 /// A run of the loop.
 #[derive(Drop)]
 struct Solver {
-    subgame: Subgame,
+    parts: Parts,
     order: Order,
-    settled: Settled,
     set_aside: Vec<u32>,
     frames: Vec<Frame>,
     list: Vec<u32>,
+    /// The vertices that are made active again.
+    opened: Vec<u32>,
     /// The number of planned vertices.
     size: usize,
 }
@@ -176,8 +185,8 @@ impl Solver {
     /// No vertex is settled yet.
     fn new(alloc: Global, view: &View) -> Result<Solver, Memory>
         ensures running { IfOk result (λ solver. IsSolverState view.now.game.now view.now.mask.now solver solver.frames.items) }
-        ensures active { IfOk result (λ solver. solver.subgame.active ≡ view.now.mask.now) }
-        ensures work { IfOk result (λ solver. work (size view.now.mask.now) solver solver.frames.items ≤ most_steps (length view.now.mask.now)) }
+        ensures active { IfOk result (λ solver. solver.parts.subgame.active ≡ view.now.mask.now) }
+        ensures work { IfOk result (λ solver. work (size view.now.mask.now) solver solver.frames.items ≤ most_steps (size view.now.mask.now)) }
     {
         // Capacities are for all vertices that a list may get, as far as this is known. If a list outgrows a block below a KiB, the
         // allocator of glibc keeps that block, and does not return the memory below it to the system.
@@ -186,16 +195,16 @@ impl Solver {
         // the order first, which frees its temporary memory
         let order = Order::new(alloc, view)?;
         let subgame = Subgame::new(alloc, view)?;
-        let settled = Settled::new(alloc, n)?;
+        let settled = Settled::new(alloc, view.game.len(), n)?;
         let set_aside = Vec::with_capacity(alloc, n as usize)?;
         let list = Vec::with_capacity(alloc, n as usize)?;
         let solver = Solver {
-            subgame,
+            parts: Parts::new(subgame, settled),
             order,
-            settled,
             set_aside,
             frames,
             list,
+            opened: Vec::with_capacity(alloc, n as usize)?,
             size: n as usize,
         };
         Ok(solver)
@@ -203,9 +212,9 @@ impl Solver {
 
     /// The number of vertices that are settled for the player.
     fn count(&self, player: Player) -> usize
-        ensures { result ≡ length (settled_of self.now.settled player) }
+        ensures { result ≡ length (settled_of self.now.parts.settled player) }
     {
-        self.settled.count(player)
+        self.parts.settled.count(player)
     }
 
     /// Takes the steps that are left, or all where there is no limit. Returns the claims once no step remains to be taken.
@@ -221,7 +230,7 @@ impl Solver {
         ensures fewer { AreFewer left.old left.new }
         ensures unlimited { IfOk result (λ found. left.old ≡ None → IsSome found) }
         ensures all { IfOk result (λ found. IsNone found → left.new ≡ Some 0) }
-        ensures no_steps { IfOk result (λ found. left.old ≡ Some 0 → (v : ℕ) → In (active_of self.old.subgame) v → IsNone found) }
+        ensures no_steps { IfOk result (λ found. left.old ≡ Some 0 → (v : ℕ) → In (active_of self.old.parts.subgame) v → IsNone found) }
         ensures spends { IfOk result (λ found. IsNone found → work (size view.now.mask.now) self.new self.new.frames.items + number_left left.old
             ≤ work (size view.now.mask.now) self.old self.old.frames.items) }
     {
@@ -230,7 +239,7 @@ impl Solver {
         }
         let for_even = self.count(Player::Even);
         let for_odd = self.count(Player::Odd);
-        let plan = &self.subgame.plan;
+        let plan = &self.parts.subgame.plan;
         let (even, odd) = rows_of(alloc, view, plan, for_even, for_odd)?;
         Ok(Some(Solved {
             even: claim_of(Player::Even, even),
@@ -242,13 +251,13 @@ impl Solver {
     fn run(&mut self, view: &View, left: &mut Option<u64>) -> Result<bool, Memory>
         requires { IsSolverState view.now.game.now view.now.mask.now self.old self.old.frames.items }
         ensures solved { IfOk result (λ done. done ≡ true
-            → IsSolvedInside view.now.game.now (members view.now.mask.now) (winners_of self.new.subgame.plan) (choices_of self.new.subgame.plan)) }
-        ensures size { IfOk result (λ done. done ≡ true → HasSize (length view.now.game.now) self.new.subgame.plan) }
+            → IsSolvedInside view.now.game.now (members view.now.mask.now) (winners_of self.new.parts.subgame.plan) (choices_of self.new.parts.subgame.plan)) }
+        ensures size { IfOk result (λ done. done ≡ true → HasSize (length view.now.game.now) self.new.parts.subgame.plan) }
         ensures running { IfOk result (λ done. done ≡ false → IsSolverState view.now.game.now view.now.mask.now self.new self.new.frames.items) }
         ensures fewer { AreFewer left.old left.new }
         ensures unlimited { IfOk result (λ done. left.old ≡ None → done ≡ true) }
         ensures all { IfOk result (λ done. done ≡ false → left.new ≡ Some 0) }
-        ensures no_steps { IfOk result (λ done. left.old ≡ Some 0 → (v : ℕ) → In (active_of self.old.subgame) v → done ≡ false) }
+        ensures no_steps { IfOk result (λ done. left.old ≡ Some 0 → (v : ℕ) → In (active_of self.old.parts.subgame) v → done ≡ false) }
         ensures spends { IfOk result (λ done. done ≡ false → work (size view.now.mask.now) self.new self.new.frames.items + number_left left.old
             ≤ work (size view.now.mask.now) self.old self.old.frames.items) }
     {
@@ -272,7 +281,7 @@ impl Solver {
         requires { IsSolverState view.now.game.now view.now.mask.now self.now self.now.frames.items }
         ensures fewer { AreFewer left.old left.new }
         ensures unlimited { left.old ≡ None → result ≡ true }
-        ensures none { left.old ≡ Some 0 → (v : ℕ) → In (active_of self.now.subgame) v → result ≡ false }
+        ensures none { left.old ≡ Some 0 → (v : ℕ) → In (active_of self.now.parts.subgame) v → result ≡ false }
         ensures all { result ≡ false → left.new ≡ Some 0 }
         ensures one { number_left left.old ≤ 1 + number_left left.new }
         ensures none_left { result ≡ false → number_left left.old ≡ 0 }
@@ -280,7 +289,7 @@ impl Solver {
         !self.has_more(view) || take_step(left)
     }
 
-    /// Begins the active part: sets aside its greatest vertices of one parity and what they attract. False if nothing is
+    /// Begins the active part: sets aside its vertices of the greatest priority and what they attract. False if nothing is
     /// active.
     fn enter(&mut self, view: &View) -> Result<bool, Memory>
         requires { IsSolverState view.now.game.now view.now.mask.now self.old self.old.frames.items }
@@ -289,37 +298,49 @@ impl Solver {
             → work (size view.now.mask.now) self.new self.new.frames.items < work (size view.now.mask.now) self.old self.old.frames.items) }
         ensures same { IfOk result (λ entered. entered ≡ false
             → work (size view.now.mask.now) self.new self.new.frames.items ≡ work (size view.now.mask.now) self.old self.old.frames.items) }
-        ensures none { IfOk result (λ entered. entered ≡ false → (v : ℕ) → active_of self.new.subgame v ≡ false) }
-        ensures kept { IfOk result (λ entered. entered ≡ false → self.new.subgame ≡ self.old.subgame) }
+        ensures none { IfOk result (λ entered. entered ≡ false → (v : ℕ) → active_of self.new.parts.subgame v ≡ false) }
+        ensures kept { IfOk result (λ entered. entered ≡ false → self.new.parts.subgame ≡ self.old.parts.subgame) }
     {
         if !self.has_more(view) {
             return Ok(false);
         }
-        let Some(top) = self.order.top(view.game, &self.subgame.active) else {
+        let active = &self.parts.subgame.active;
+        let Some(top) = self.order.top(view.game, active) else {
             return Ok(false);
         };
-        let place = self.order.upto();
-        let player = Player::of_parity(top);
         self.order
-            .list_greatest(view.game, &self.subgame.active, player, &mut self.list)?;
-        self.subgame.begin(view.game, player, &mut self.list)?;
+            .list_greatest(view.game, active, top, &mut self.list)?;
+        let tops = self.list.len();
+        let player = Player::of_parity(top);
+        self.parts.subgame.begin(view.game, player, &mut self.list)?;
+        let even = self.count(Player::Even);
+        let odd = self.count(Player::Odd);
+        self.wait(player, tops, even, odd)?;
+        Ok(true)
+    }
+
+    /// Sets aside the listed vertices, the first of them the greatest. Their subgame waits, with so many settled vertices of each player.
+    fn wait(&mut self, player: Player, tops: usize, even: usize, odd: usize) -> Result<(), Memory>
+        requires { tops ≤ length self.old.list.items }
+        ensures waits { OnOk result (Waits player tops even odd self.old self.new) }
+    {
         let set_aside = self.set_aside.len();
         self.set_aside.extend_from_slice(&self.list)?;
         self.frames.push(Frame {
             player,
-            place,
-            even: self.settled.count(Player::Even),
-            odd: self.settled.count(Player::Odd),
+            even,
+            odd,
             set_aside,
+            tops: set_aside + tops,
             upto: self.set_aside.len(),
         })?;
-        Ok(true)
+        Ok(())
     }
 
     /// Whether a vertex is neither settled nor set aside. Such a vertex is active.
     fn has_more(&self, view: &View) -> bool
         requires { IsSolverState view.now.game.now view.now.mask.now self.now self.now.frames.items }
-        ensures { result ≡ false → (v : ℕ) → active_of self.now.subgame v ≡ false }
+        ensures { result ≡ false → (v : ℕ) → active_of self.now.parts.subgame v ≡ false }
     {
         // for the proof: there are so few vertices that the numbers listed add up without overflow
         let _n = view.game.len();
@@ -328,22 +349,22 @@ impl Solver {
 
     /// The number of vertices that are settled or set aside. The others are active.
     fn gone(&self) -> usize
-        requires { how_many_gone (settled_of self.now.settled) self.now.set_aside.items < 2 ^ 32 }
-        ensures { result ≡ how_many_gone (settled_of self.now.settled) self.now.set_aside.items }
+        requires { how_many_gone (settled_of self.now.parts.settled) self.now.set_aside.items < 2 ^ 32 }
+        ensures { result ≡ how_many_gone (settled_of self.now.parts.settled) self.now.set_aside.items }
     {
-        self.settled.count(Player::Even) + self.settled.count(Player::Odd) + self.set_aside.len()
+        self.count(Player::Even) + self.count(Player::Odd) + self.set_aside.len()
     }
 
     /// Finishes the subgame that waits there, which has no active vertex.
     fn leave(&mut self, view: &View, frame: Frame) -> Result<(), Memory>
         requires running { IsSolverState view.now.game.now view.now.mask.now self.old (self.old.frames.items ++ frame ∷ []) }
-        requires done { (v : ℕ) → active_of self.old.subgame v ≡ false }
+        requires done { (v : ℕ) → active_of self.old.parts.subgame v ≡ false }
         ensures running { OnOk result (IsSolverState view.now.game.now view.now.mask.now self.new self.new.frames.items) }
         ensures fewer { OnOk result (work (size view.now.mask.now) self.new self.new.frames.items < work (size view.now.mask.now) self.old
             (self.old.frames.items ++ frame ∷ [])) }
     {
         let other = frame.player.other();
-        if self.settled.count(other) == frame.count(other) {
+        if self.count(other) == frame.count(other) {
             self.close(view, frame)
         } else {
             self.resume(view, frame)
@@ -353,63 +374,107 @@ impl Solver {
     /// Settles the subgame that waits there for its player, who won its whole rest.
     fn close(&mut self, view: &View, frame: Frame) -> Result<(), Memory>
         requires running { IsSolverState view.now.game.now view.now.mask.now self.old (self.old.frames.items ++ frame ∷ []) }
-        requires done { (v : ℕ) → active_of self.old.subgame v ≡ false }
-        requires all { length (settled_of self.old.settled (opponent frame.player)) ≡ count_at frame (opponent frame.player) }
+        requires done { (v : ℕ) → active_of self.old.parts.subgame v ≡ false }
+        requires all { length (settled_of self.old.parts.settled (opponent frame.player)) ≡ count_at frame (opponent frame.player) }
         ensures running { OnOk result (IsSolverState view.now.game.now view.now.mask.now self.new self.new.frames.items) }
         ensures fewer { OnOk result (work (size view.now.mask.now) self.new self.new.frames.items < work (size view.now.mask.now) self.old
             (self.old.frames.items ++ frame ∷ [])) }
     {
-        self.settled
-            .append_from(frame.player, &self.set_aside, frame.set_aside)?;
+        // for the proof: there are so few vertices that each place in a list fits
+        let _n = view.game.len();
+        self.parts
+            .settled
+            .add_all(frame.player, &self.set_aside[frame.set_aside..])?;
         self.set_aside.truncate(frame.set_aside);
         Ok(())
     }
 
-    /// Removes from the subgame that waits there what the opponent won and attracts, and makes the others active. What he
-    /// won stays in its list: of the others only those set aside may lead to it.
+    /// Removes from the subgame that waits there what the opponent won and attracts. It waits again, unless its greatest vertices are
+    /// all among them. What its player has won stays won if nothing on which it rests has changed; the others are active.
     fn resume(&mut self, view: &View, frame: Frame) -> Result<(), Memory>
         requires running { IsSolverState view.now.game.now view.now.mask.now self.old (self.old.frames.items ++ frame ∷ []) }
-        requires done { (v : ℕ) → active_of self.old.subgame v ≡ false }
-        requires some { length (settled_of self.old.settled (opponent frame.player)) ≢ count_at frame (opponent frame.player) }
+        requires done { (v : ℕ) → active_of self.old.parts.subgame v ≡ false }
+        requires some { length (settled_of self.old.parts.settled (opponent frame.player)) ≢ count_at frame (opponent frame.player) }
         ensures running { OnOk result (IsSolverState view.now.game.now view.now.mask.now self.new self.new.frames.items) }
         ensures fewer { OnOk result (work (size view.now.mask.now) self.new self.new.frames.items < work (size view.now.mask.now) self.old
             (self.old.frames.items ++ frame ∷ [])) }
     {
+        let tops = self.shrink(view, frame)?;
+        self.wait_again(frame, tops)?;
+        self.win_back(view, frame)?;
+        self.order
+            .refill(view.game, &self.parts.subgame.active, &self.opened)
+    }
+
+    /// Settles for the opponent what he attracts, lists what the greatest vertices that are left attract, and makes active what is
+    /// neither listed nor still won. The number of these greatest vertices.
+    fn shrink(&mut self, view: &View, frame: Frame) -> Result<usize, Memory>
+        requires running { IsSolverState view.now.game.now view.now.mask.now self.old (self.old.frames.items ++ frame ∷ []) }
+        requires done { (v : ℕ) → active_of self.old.parts.subgame v ≡ false }
+        ensures shrinks { IfOk result (λ k. Shrinks view.now.game.now (members view.now.mask.now) frame self.old self.new k) }
+    {
         let other = frame.player.other();
-        self.reopen(frame);
-        self.settled.attract(
-            &mut self.subgame,
-            view,
-            other,
-            &self.set_aside,
-            frame.set_aside,
-        )?;
+        let won = self.count(other);
+        self.lose(view, frame)?;
+        let greatest = frame.greatest(&self.set_aside);
+        let tops = self.parts.begin_again(view.game, greatest, &mut self.list)?;
+        self.opened.clear();
+        let aside = frame.aside(&self.set_aside);
+        list_active(&self.parts.subgame.active, aside, &mut self.opened)?;
+        self.parts.open(view.game, other, won, &mut self.opened)?;
         self.set_aside.truncate(frame.set_aside);
-        self.order.go_back(frame.place);
+        Ok(tops)
+    }
+
+    /// Makes active what is set aside last, and settles for the opponent what he attracts. What his player has won is free.
+    fn lose(&mut self, view: &View, frame: Frame) -> Result<(), Memory>
+        requires running { IsSolverState view.now.game.now view.now.mask.now self.old (self.old.frames.items ++ frame ∷ []) }
+        requires done { (v : ℕ) → active_of self.old.parts.subgame v ≡ false }
+        ensures loses { OnOk result (Loses view.now.game.now (members view.now.mask.now) frame self.old self.new) }
+    {
+        let other = frame.player.other();
+        let aside = frame.aside(&self.set_aside);
+        self.parts
+            .free_from(frame.player, frame.count(frame.player));
+        insert_all(&mut self.parts.subgame.active, aside);
+        self.parts.attract(view.game, other, frame.count(other), aside, &mut self.list)?;
         Ok(())
     }
 
-    /// Makes active again the vertices set aside for the subgame, and those of the rest that its player won.
-    fn reopen(&mut self, frame: Frame)
-        requires set_aside { frame.set_aside ≤ length self.old.set_aside.items }
-        requires counts { (p : Player) → count_at frame p ≤ length (settled_of self.old.settled p) }
-        requires aside_below { All (λ v. v < length self.old.subgame.active) self.old.set_aside.items }
-        requires settled_below { (p : Player) → All (λ v. v < length self.old.subgame.active) (settled_of self.old.settled p) }
-        ensures length { length self.new.subgame.active ≡ length self.old.subgame.active }
-        ensures active { (v : ℕ) → active_of self.new.subgame v
-            ≡ ((active_of self.old.subgame v || listed (drop frame.set_aside self.old.set_aside.items) v) || listed
-            (drop (count_at frame frame.player) (settled_of self.old.settled frame.player)) v) }
-        ensures own { settled_of self.new.settled frame.player ≡ take (count_at frame frame.player) (settled_of self.old.settled frame.player) }
-        ensures other { settled_of self.new.settled (opponent frame.player) ≡ settled_of self.old.settled (opponent frame.player) }
-        ensures same { self.new ≡ with_active self.old self.new.subgame.active self.new.settled }
+    /// Sets aside the listed vertices, the first of them the greatest, and their subgame waits; if there is none, nothing waits.
+    fn wait_again(&mut self, frame: Frame, tops: usize) -> Result<(), Memory>
+        requires { tops ≤ length self.old.list.items }
+        ensures waits { OnOk result (WaitsAgain frame tops self.old self.new) }
     {
-        insert_all(&mut self.subgame.active, &self.set_aside[frame.set_aside..]);
-        let own = frame.count(frame.player);
-        insert_all(
-            &mut self.subgame.active,
-            &self.settled.list(frame.player)[own..],
-        );
-        self.settled.truncate(frame.player, own);
+        if tops == 0 {
+            return Ok(());
+        }
+        let (even, odd) = match frame.player {
+            Player::Even => (frame.even, self.count(Player::Odd)),
+            Player::Odd => (self.count(Player::Even), frame.odd),
+        };
+        self.wait(frame.player, tops, even, odd)
+    }
+
+    /// Settles for the player what he attracts to what he has still won since the subgame was begun.
+    fn win_back(&mut self, view: &View, frame: Frame) -> Result<(), Memory>
+        requires parts { AreParts (length view.now.game.now) self.old.parts }
+        requires below { All (λ v. v < length view.now.game.now) self.old.opened.items }
+        requires listed { Within (active_of self.old.parts.subgame) (listed self.old.opened.items) }
+        requires counts { count_at frame frame.player ≤ length (settled_of self.old.parts.settled frame.player) }
+        ensures wins { OnOk result (WinsBack view.now.game.now frame.player (count_at frame frame.player) self.old.parts self.new.parts) }
+        ensures parts { OnOk result (AreParts (length view.now.game.now) self.new.parts) }
+        ensures same { OnOk result (KeepsLists self.old self.new) }
+    {
+        let player = frame.player;
+        let own = frame.count(player);
+        let kept = self.count(player);
+        if kept > own {
+            self.parts.free_from(player, kept);
+            self.parts
+                .attract(view.game, player, own, &self.opened, &mut self.list)?;
+        }
+        Ok(())
     }
 }
 
@@ -418,13 +483,12 @@ impl Solver {
 struct Frame {
     /// The player of its attractor.
     player: Player,
-    /// The subgame's vertices are before this place in the order by priority.
-    place: usize,
     /// The number of vertices that were settled for each player when the subgame was begun.
     even: usize,
     odd: usize,
-    /// The places between which its attractor is set aside.
+    /// The places between which its attractor is set aside, first its greatest vertices.
     set_aside: usize,
+    tops: usize,
     upto: usize,
 }
 
@@ -438,96 +502,21 @@ impl Frame {
             Player::Odd => self.odd,
         }
     }
-}
 
-/// The vertices that each player has won for good, in the order of settling.
-#[derive(Drop)]
-struct Settled {
-    even: Vec<u32>,
-    odd: Vec<u32>,
-}
-
-impl Settled {
-    /// Nothing is settled. There is capacity for this many vertices of each player.
-    fn new(alloc: Global, n: u32) -> Result<Settled, Memory>
-        ensures { IfOk result (λ settled. (p : Player) → settled_of settled p ≡ []) }
+    /// What is set aside for the frame, of all that is.
+    fn aside(self, set_aside: &[u32]) -> &[u32]
+        requires { (self.set_aside ≤ self.upto) × (self.upto ≤ length set_aside.now) }
+        ensures { result.now ≡ aside_of self set_aside.now }
     {
-        Ok(Settled {
-            even: Vec::with_capacity(alloc, n as usize)?,
-            odd: Vec::with_capacity(alloc, n as usize)?,
-        })
+        &set_aside[self.set_aside..self.upto]
     }
 
-    /// The player's vertices.
-    fn list(&self, player: Player) -> &[u32]
-        ensures { result.now ≡ settled_of self.now player }
+    /// The greatest vertices of these.
+    fn greatest(self, set_aside: &[u32]) -> &[u32]
+        requires { (self.set_aside ≤ self.tops) × (self.tops ≤ length set_aside.now) }
+        ensures { result.now ≡ greatest_of self set_aside.now }
     {
-        match player {
-            Player::Even => &self.even,
-            Player::Odd => &self.odd,
-        }
-    }
-
-    /// The player's vertices, to be changed.
-    fn list_mut(&mut self, player: Player) -> &mut Vec<u32>
-        ensures* lends { sem 𝓛 (LendsList self.entry player result) }
-        ensures items { result.now.items ≡ settled_of self.old player }
-    {
-        match player {
-            Player::Even => &mut self.even,
-            Player::Odd => &mut self.odd,
-        }
-    }
-
-    /// The number of the player's vertices.
-    fn count(&self, player: Player) -> usize
-        ensures { result ≡ length (settled_of self.now player) }
-    {
-        self.list(player).len()
-    }
-
-    /// Gives the vertices of the list from a place on to the player.
-    fn append_from(&mut self, player: Player, list: &[u32], from: usize) -> Result<(), Memory>
-        requires { from ≤ length list.now }
-        ensures own { OnOk result (settled_of self.new player ≡ settled_of self.old player ++ drop from list.now) }
-        ensures other { OnOk result (settled_of self.new (opponent player) ≡ settled_of self.old (opponent player)) }
-    {
-        self.list_mut(player).extend_from_slice(&list[from..])?;
-        Ok(())
-    }
-
-    /// Settles for the player what he attracts to his vertices. Of the active vertices only those set aside from a place
-    /// on may lead to them.
-    fn attract(
-        &mut self,
-        subgame: &mut Subgame,
-        view: &View,
-        player: Player,
-        set_aside: &[u32],
-        from: usize,
-    ) -> Result<(), Memory>
-        requires ready { IsReady (length view.now.game.now) subgame.old (settled_of self.old player) }
-        requires known { IsKnown view.now.game.now (members view.now.mask.now) player (active_of subgame.old) subgame.old.plan (settled_of self.old player) }
-        requires place { from ≤ length set_aside.now }
-        requires below { All (λ v. v < length view.now.game.now) set_aside.now }
-        requires at_most { AttractsAtMost view.now.game.now player (active_of subgame.old) (settled_of self.old player) (drop from set_aside.now) }
-        ensures ready { OnOk result (IsReady (length view.now.game.now) subgame.new (settled_of self.new player)) }
-        ensures grown { OnOk result (HasTaken view.now.game.now player (active_of subgame.old) subgame.old.plan (settled_of self.old player)
-            (active_of subgame.new) subgame.new.plan (settled_of self.new player)) }
-        ensures done { OnOk result (AttractsNoActive view.now.game.now player (union (active_of subgame.old) (listed (settled_of self.old player)))
-            (listed (settled_of self.new player)) (active_of subgame.new)) }
-        ensures other { settled_of self.new (opponent player) ≡ settled_of self.old (opponent player) }
-    {
-        let list = self.list_mut(player);
-        subgame.attract_again(view, player, list, &set_aside[from..])
-    }
-
-    /// Removes the player's vertices from a place on.
-    fn truncate(&mut self, player: Player, count: usize)
-        ensures own { settled_of self.new player ≡ take count (settled_of self.old player) }
-        ensures other { settled_of self.new (opponent player) ≡ settled_of self.old (opponent player) }
-    {
-        self.list_mut(player).truncate(count);
+        &set_aside[self.set_aside..self.tops]
     }
 }
 

@@ -1,9 +1,10 @@
 //! Solving in the calling thread: what is known, and then a board that settles all the rest itself (`Board::finish`). A static
 //! library solves so, since it may start no thread.
 
-ghost use Rattle.std.specs.Prelude.{◌≡◌, slice_get, IfOk, IfErr, IfSome, IsNone, IsSome, Some, Option, ℕ};
+ghost use Rattle.std.specs.Prelude.{◌≡◌, slice_get, IfOk, IfErr, IfSome, IsNone, Some, Option, ℕ};
 ghost use Rattle.pg_game.specs.declared.player.Player.{Player};
 ghost use Rattle.pg_board.specs.Journal.{state_of};
+ghost use Rattle.pg_board.specs.Finish.{MayGiveUp, number_unsettled};
 ghost use Rattle.pg_text.specs.Solution.{IsExactSolution};
 ghost use Rattle.pg_workers.specs.KnownRegions.{IsSolveFault, IsKnownRegion, KeepsKnown};
 
@@ -38,7 +39,7 @@ pub fn solve_board(
     ensures exact { IfOk result (λ found. IfSome found (λ s. IsExactSolution board.entry.graph s.rows)) }
     ensures kept { IfOk result (λ found. IfSome found (λ s. (v : ℕ) (r : Player × Option ℕ)
         → state_of board.entry.journal v ≡ Some r → slice_get s.rows v ≡ Some r)) }
-    ensures limited { IfOk result (λ found. IsNone found → IsSome limit) }
+    ensures limited { IfOk result (λ found. IsNone found → MayGiveUp limit (number_unsettled board.entry)) }
 {
     if !board.finish(alloc, limit)? {
         return Ok(None);

@@ -4,8 +4,8 @@
 ghost use Rattle.std.specs.Prelude.{◌≡◌, ◌+◌, ◌≤◌, ℕ, IfOk, IfErr, length, replicate, vec_len};
 ghost use Rattle.pg_text.specs.Known.{KnownRows};
 ghost use Rattle.pg_workers.specs.Outcomes.{IsOutcome};
-ghost use Rattle.pg_board.specs.Journal.{number_settled};
-ghost use Rattle.pg_workers.specs.KnownRegions.{IsSolveFault};
+ghost use Rattle.pg_board.specs.Journal.{number_settled, state_of};
+ghost use Rattle.pg_workers.specs.KnownRegions.{IsSolveFault, KeepsKnown};
 ghost use Rattle.pg_workers.specs.private.KnownPosts.{HasSettled};
 ghost use Rattle.pg_workers.specs.private.Report.{KeepsReport};
 ghost use Rattle.pg_workers.specs.Report.{IsInOrder, IsReport, settled_in};
@@ -13,7 +13,7 @@ ghost use Rattle.pg_workers.specs.Tickets.{fresh};
 ghost use Rattle.pg_board.specs.Work.{total_of};
 
 use crate::jobs::{Jobs, Ticket};
-use crate::known::{KnownOf, SolveFault, board_with};
+use crate::known::{KnownOf, SolveFault, board_with, keeps_known};
 use crate::report::{ReportRow, blank_report, with_no_posts, with_rows};
 use crate::threads::{new_workers, start_all, take_apart};
 use crate::worker::{Gate, RunJobs, Setup, Task};
@@ -40,8 +40,8 @@ pub struct Outcome {
 /// empty. Of a vertex after the last known row nothing is known.
 ///
 /// The error is `Known` with the refusal of its post if a known set is no region, or `Memory`. For every number of workers,
-/// gate and finder the entries are a lawful journal of the game, the solution is their state, and the report has a row for
-/// each job, in order.
+/// gate and finder the entries are a lawful journal of the game, the solution is their state, what is known keeps its winners,
+/// and the choices of those who own the vertices, and the report has a row for each job, in order.
 pub fn solve_game<R: Threads + Wait + Sync>(
     rt: &R,
     alloc: Global,
@@ -142,8 +142,8 @@ fn run_workers<
     Ok((board, with_rows(report, rows.as_slice())))
 }
 
-/// The closed board and its report if the board is of this game. Otherwise a new board with the known sets alone, and the
-/// report without posts.
+/// The closed board and its report if the board is of this game and keeps what is known. Otherwise a new board with the known
+/// sets alone, and the report without posts.
 fn on_own_game<'g>(
     alloc: Global,
     of: &KnownOf<'g>,
@@ -151,13 +151,15 @@ fn on_own_game<'g>(
     report: Vec<ReportRow>,
 ) -> Result<(Board<'g>, Vec<ReportRow>), SolveFault>
     requires { HasSettled of.now.game.now of.now.known.now.rows report.items board.journal }
-    ensures same { board.entry.graph ≡ of.now.game.now → IfOk result (λ r. (r.0.journal ≡ board.entry.journal) × (r.1.items ≡ report.items)) }
+    ensures same { board.entry.graph ≡ of.now.game.now → KeepsKnown of.now.game.now of.now.known.now.rows (state_of board.entry.journal)
+        → IfOk result (λ r. (r.0.journal ≡ board.entry.journal) × (r.1.items ≡ report.items)) }
     ensures game { IfOk result (λ r. r.0.graph ≡ of.now.game.now) }
+    ensures kept { IfOk result (λ r. KeepsKnown of.now.game.now of.now.known.now.rows (state_of r.0.journal)) }
     ensures settled { IfOk result (λ r. HasSettled of.now.game.now of.now.known.now.rows r.1.items r.0.journal) }
     ensures report { IfOk result (λ r. KeepsReport report.items r.1.items) }
     ensures fault { IfErr result (λ e. IsSolveFault of.now.game.now of.now.known.now.rows e) }
 {
-    if *board.game() == *of.game {
+    if *board.game() == *of.game && keeps_known(&board, of) {
         return Ok((board, report));
     }
     let board = board_with(alloc, of)?;
@@ -171,6 +173,7 @@ fn outcome_of(
     report: Vec<ReportRow>,
 ) -> Result<Outcome, Memory>
     ensures { (known : KnownRows) (total workers : ℕ) → HasSettled board.entry.graph known report.items board.entry.journal
+        → KeepsKnown board.entry.graph known (state_of board.entry.journal)
         → IsInOrder total report.items → IsReport workers report.items → IfOk result (λ o. IsOutcome board.entry.graph known total workers o) }
 {
     board.post_rest(alloc, None)?;

@@ -1,10 +1,11 @@
 -- The answers of the calls on arrays, and their refusals: the first reason that applies, for the least vertex.
-use Rattle.std.specs.Prelude.{ℕ, ◌≡◌, ◌≢◌, ◌+◌, length, slice_index, Option, Some, IsSome, Result, MatchResult}
+use Rattle.std.specs.Prelude.{ℕ, ◌≡◌, ◌≢◌, ◌+◌, length, slice_index, Option, Some, Result, MatchResult}
 use Rattle.pg_game.specs.Graph.{Graph}
 use Rattle.pg_game.specs.Specification.{first_fault}
 use Rattle.pg_game.specs.Least.{NoneHas, IsLeast}
 use Rattle.pg_text.specs.Solution.{SolutionRows, IsSolution, IsExactSolution}
 use Rattle.pg_dominion.specs.Verdict.{FailsBy}
+use Rattle.pg_board.specs.Finish.{MayGiveUp}
 use Rattle.pgboard_c.specs.declared.fault.ArrayName.{ArrayName}
 use Rattle.pgboard_c.specs.declared.fault.ArrayName.TheVariants as array_name
 use Rattle.pgboard_c.specs.declared.fault.Structure.TheVariants as structure
@@ -64,12 +65,12 @@ AreUnfitResults g r (fault.Size structure.Results) = r.size ≢ structure_size s
 AreUnfitResults g r (fault.Results name) = (r.size ≡ structure_size structure.Results) × IsResultMisfit g r name
 AreUnfitResults g r other = ⊥
 
--- why solving has no result, with the results before the call; with a limit of steps also that it gave up, on a game and results that it
--- could solve
+-- why solving has no result, with the results before the call; under a limit of steps that may be too low also that it gave up, on a game
+-- and results that it could solve
 abbrev pub IsSolveFault : Option ℕ → GameLists → ResultLists → Fault → Type 0
 IsSolveFault limit a r (fault.Size structure.Results) = (g : Graph) × IsGameOfArrays a g × AreUnfitResults g r (fault.Size structure.Results)
 IsSolveFault limit a r (fault.Results name) = (g : Graph) × IsGameOfArrays a g × AreUnfitResults g r (fault.Results name)
-IsSolveFault limit a r fault.GaveUp = IsSome limit × ((g : Graph) × IsGameOfArrays a g × HaveSize g r)
+IsSolveFault limit a r fault.GaveUp = (g : Graph) × IsGameOfArrays a g × HaveSize g r × MayGiveUp limit (length g)
 IsSolveFault limit a r other = IsArraysFault a other
 
 -- the game is solved, or not, and the results are unchanged

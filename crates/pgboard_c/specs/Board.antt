@@ -9,10 +9,10 @@ use Rattle.pg_text.specs.Solution.{SolutionRows, IsExactSolution}
 use Rattle.pg_board.specs.BoardRecord.{BoardRecord}
 use Rattle.pg_board.specs.SessionRecord.{SessionRecord}
 use Rattle.pg_board.specs.Board.{IsLawfulBoard}
-use Rattle.pg_board.specs.Slices.{most_slices}
+use Rattle.pg_board.specs.Slices.{most_slices, IsCharged}
 use Rattle.pg_board.specs.Journal.{state_of, number_settled}
 use Rattle.pg_board.specs.Full.{IsFull, AreStateRows}
-use Rattle.pg_board.specs.Finish.{IsContinued}
+use Rattle.pg_board.specs.Finish.{IsContinued, MayGiveUp, number_unsettled}
 use Rattle.pgboard_c.specs.declared.arrays.Results.{Results}
 use Rattle.pgboard_c.specs.declared.held.Handle.{Handle}
 use Rattle.pgboard_c.specs.declared.fault.BoardFault.TheVariants as board_fault
@@ -106,9 +106,9 @@ IsStateOutcome old new = IsReadOutcome
 abbrev pub IsFinished : BoardRecord → BoardRecord → Type 0
 IsFinished s t = IsFull t.graph (state_of t.journal) × IsContinued s t
 
--- why a board is not finished: memory was refused, or there is a limit of steps and it gave up, with a vertex unsettled
+-- why a board is not finished: memory was refused, or it gave up under a limit of steps that may be too low, with a vertex unsettled
 abbrev pub IsFinishFault : Option ℕ → BoardRecord → Fault → Type 0
-IsFinishFault limit s fault.GaveUp = IsSome limit × (IsFull s.graph (state_of s.journal) → ⊥)
+IsFinishFault limit s fault.GaveUp = MayGiveUp limit (number_unsettled s) × (IsFull s.graph (state_of s.journal) → ⊥)
 IsFinishFault limit s other = other ≡ fault.Memory
 
 abbrev pub IsFinishOutcome : Option ℕ → SessionOutcome
@@ -130,12 +130,18 @@ IsNearer old_steps new_steps old new fault.GaveUp =
     (0 < old_steps → slices_in new < slices_in old) × (slices_in new + (old_steps - new_steps) ≤ slices_in old)
 IsNearer old_steps new_steps old new other = Unit {0}
 
+-- where it gave up, it has left of its steps what a slice of that session leaves: all after a search, and none after one of the recursion
+abbrev pub HasCharged : ℕ → ℕ → Option SessionRecord → Fault → Type 0
+HasCharged old_steps new_steps old fault.GaveUp = IfSome old (λ s. IsCharged (length s.board.graph) s.slices old_steps new_steps)
+HasCharged old_steps new_steps old other = Unit {0}
+
 -- more is settled, also where there is a fault
 pub record IsAdvanceOutcome (old_steps new_steps : ℕ) (old new : Option SessionRecord) (result : Result (Unit {0}) Fault) : Type 0 where
   pub continued : IsContinuedOn old new
   pub full : OnOk result ((t : SessionRecord) × (new ≡ Some t) × IsFull t.board.graph (state_of t.board.journal))
   pub fault : IfErr result (OnBoard new IsAdvanceFault)
   pub nearer : IfErr result (IsNearer old_steps new_steps old new)
+  pub charged : IfErr result (HasCharged old_steps new_steps old)
   pub steps : new_steps ≤ old_steps
 
 -- the board is full, and the arrays have its winners and choices, which are the game's solution

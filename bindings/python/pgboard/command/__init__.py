@@ -2,19 +2,28 @@
 other programs.
 
 A signal that ends a command, as Ctrl-C does, first ends the programs that it runs and removes its temporary
-files. Where there are none it ends the command at once. A command imports this module first, before all that
-takes time to load.
+files. Where there are none it ends the command at once. To import this module changes no signal: `run` does.
 """
 
 # mypy: ignore-errors
 
-# (`signal` takes long to load, and Ctrl-C may come meanwhile)
-import _signal as signal
+import argparse
+import contextlib
+import errno
+import functools
+import gc
 import os
+import re
+import shutil
+import signal
+import subprocess
 import sys
+import tempfile
+import time
+import traceback
 
-# the calls that a signal makes before it ends the command, the last one first
-undo = []
+# the calls that a signal makes before it ends the command, the last one first; None where this is no command
+undo = None
 # while something is begun, signals wait
 _begun, _waiting = [], []
 
@@ -32,26 +41,16 @@ def _end(number, _):
 
 def on_signals(handler=signal.SIG_DFL):
     """Sets what signals do that end a command, except those that are ignored, as by nohup."""
-    for it in (signal.SIGINT, signal.SIGTERM, signal.SIGHUP):
+    for it in (signal.SIGINT, signal.SIGTERM, signal.SIGHUP, signal.SIGQUIT):
         if signal.getsignal(it) != signal.SIG_IGN:
             signal.signal(it, handler)
 
 
-on_signals()
-
-import argparse
-import contextlib
-import errno
-import gc
-import re
-import shutil
-import subprocess
-import tempfile
-import time
-
-# the statuses of the program, and one of our own
-WORDS, TEXT, FILE, MEMORY, LATE = 2, 3, 4, 5, 6
+# the statuses of the program, and two of our own
+WORDS, TEXT, FILE, MEMORY, LATE, OWN = 2, 3, 4, 5, 6, 7
 MOST_SHOWN, MOST_BEFORE = 60, 40
+# no text that pgboard takes is longer
+MOST_BYTES = 268_435_456
 
 
 @contextlib.contextmanager
@@ -69,18 +68,20 @@ def _held():
 def undone(begin, end):
     """What `begin` returns. `end` is called on it afterwards, or before a signal ends the command."""
     with _held():
-        if not undo:
+        if undo == []:
             on_signals(_end)
         made = begin()
         last = lambda: end(made)
-        undo.append(last)
+        if undo is not None:
+            undo.append(last)
     try:
         yield made
     finally:
         with _held():
-            undo.remove(last)
+            if undo is not None:
+                undo.remove(last)
             last()
-            if not undo:
+            if undo == []:
                 on_signals()
 
 
@@ -104,12 +105,33 @@ def end(process):
         os.waitpid(process.pid, 0)
 
 
-def child(words, given=b"", timeout=None):
+def begun(words, **how):
+    """A program that was started, whose end comes with the end of this context, or of this process."""
+    from ctypes import CDLL
+
+    # (PR_SET_PDEATHSIG of Linux; nothing is loaded between the fork and the program's start)
+    end_with_us = functools.partial(CDLL(None).prctl, 1, signal.SIGTERM)
+    return undone(lambda: subprocess.Popen(words, preexec_fn=end_with_us, **how), end)
+
+
+def in_memory(data=b""):
+    """A file that has these bytes, which a program can open as /dev/fd/N."""
+    file = open(os.memfd_create("pgboard"), "w+b", 0)
+    try:
+        if file.write(data) < len(data):
+            raise OSError(errno.EFBIG, os.strerror(errno.EFBIG))
+    except OSError as error:
+        error.filename = "a file in memory"
+        raise
+    file.seek(0)
+    return file
+
+
+def child(words, given=b"", timeout=None, **how):
     """Runs a program: its status, what it has written, and what it has said. Raises Refused after so many
     seconds.
     """
-    pipes = dict.fromkeys(("stdin", "stdout", "stderr"), subprocess.PIPE)
-    with undone(lambda: subprocess.Popen(words, **pipes), end) as process:
+    with begun(words, **dict.fromkeys(("stdin", "stdout", "stderr"), subprocess.PIPE), **how) as process:
         try:
             out, said = process.communicate(given, timeout)
         except subprocess.TimeoutExpired:
@@ -144,7 +166,7 @@ class Refused(Exception):
     """
 
     def __init__(self, why, status=TEXT, place=None):
-        self.status, self.lines = status, []
+        self.status, self.lines, self.place = status, [], place
         if place:
             path, text, at = place
             begin = text.rfind("\n", 0, at) + 1
@@ -165,54 +187,61 @@ class Refused(Exception):
         """What standard error says of it. A line that names a place comes without the command's name, as
         editors read it.
         """
-        return "\n".join([str(self) if self.lines else f"{name}: {self}", *self.lines, ""])
+        return "\n".join([str(self) if self.place else f"{name}: {self}", *self.lines, ""])
 
 
 def run(name, main):
-    """Runs a command's `main` and ends with its status. Whatever is refused is said on standard error; its
-    status is above 1.
-
-    What `main` has printed is written before.
+    """Runs a command's `main` and ends with its status. Whatever is refused is said on standard error, after
+    what `main` has printed; its status is above 1, and so is that of a fault of our own.
     """
-    sys.stderr = sys.stderr or open(os.devnull, "w")
+    global undo
+    undo, sys.stderr = [], sys.stderr or open(os.devnull, "w")
     try:
-        for stream, spelled in ((sys.stdin, "standard input"), (sys.stdout, "standard output")):
-            if stream is None:
-                raise Refused(f"{spelled} is closed", FILE)
-        sys.stdout.reconfigure(encoding="utf-8", errors="surrogateescape")
-        sys.setrecursionlimit(10_000)
-        # what a command makes lasts to its end, and to look for what does not takes as long as to make it
-        gc.disable()
-        try:
-            status = main(sys.argv[1:])
-        finally:
-            sys.stdout.flush()
-        sys.exit(status)
-    except Refused as refused:
-        fault = refused
-    except RecursionError:
-        fault = Refused("nested too deeply")
-    except MemoryError:
-        fault = Refused("memory was refused", MEMORY)
-    except OSError as error:
-        is_write = error.errno in (
-            errno.EPIPE,
-            errno.ENOSPC,
-            errno.EDQUOT,
-            errno.EFBIG,
-            errno.EIO,
-            errno.EBADF,
-        )
-        where = error.filename or ("standard output" if is_write else "")
-        fault = Refused(f"{where}: {error.strerror}" if where else str(error.strerror), FILE)
-        # what is still to be written is not tried once more
-        os.dup2(os.open(os.devnull, os.O_WRONLY), 1)
+        sys.exit(begin(main))
+    except Exception as error:
+        fault = fault_of(error)
     try:
         sys.stderr.write(fault.said(name))
     except OSError:
         # (the status says so alone, and Python's own, 1 or 120, does not come for what is left in the buffer)
         os.dup2(os.open(os.devnull, os.O_WRONLY), 2)
     sys.exit(fault.status)
+
+
+def begin(main):
+    for stream, spelled in ((sys.stdin, "standard input"), (sys.stdout, "standard output")):
+        if stream is None:
+            raise Refused(f"{spelled} is closed", FILE)
+    sys.stdout.reconfigure(encoding="utf-8", errors="surrogateescape")
+    sys.setrecursionlimit(10_000)
+    # what a command makes lasts to its end, and to look for what does not takes as long as to make it
+    gc.disable()
+    try:
+        return main(sys.argv[1:])
+    finally:
+        sys.stdout.flush()
+
+
+# with these a write failed
+WRITES = errno.EPIPE, errno.ENOSPC, errno.EDQUOT, errno.EFBIG, errno.EIO, errno.EBADF
+
+
+def fault_of(error):
+    """What is said of an exception that ends a command."""
+    if isinstance(error, Refused):
+        return error
+    if isinstance(error, RecursionError):
+        return Refused("nested too deeply")
+    if isinstance(error, MemoryError):
+        return Refused("memory was refused", MEMORY)
+    if isinstance(error, OSError):
+        where = error.filename or ("standard output" if error.errno in WRITES else "")
+        # what is still to be written is not tried once more
+        os.dup2(os.open(os.devnull, os.O_WRONLY), 1)
+        return Refused(f"{where}: {error.strerror}" if where else str(error.strerror), FILE)
+    fault = Refused("this is a mistake in the command: please report it, with what is below", OWN)
+    fault.lines = traceback.format_exc().splitlines()
+    return fault
 
 
 def progress(text):
@@ -251,16 +280,30 @@ def seconds(word):
     return value
 
 
+seconds.__name__ = "number of seconds (above 0, up to 1000000)"
+
+
 def read(path):
     """The bytes of a file, or for `-` of standard input. A fault names it: that of a failed read, other than
     of a failed open, does not.
     """
     try:
         with sys.stdin.buffer if path == "-" else open(path, "rb") as file:
-            return file.read()
+            return pieces(path, file)
     except OSError as error:
         error.filename = "standard input" if path == "-" else path or "''"
         raise
+
+
+def pieces(path, file):
+    """What is read of a file to its end, which has not too many bytes."""
+    found = bytearray()
+    while len(found) <= MOST_BYTES:
+        piece = file.read(1 << 20)
+        if not piece:
+            return found
+        found += piece
+    raise Refused(f"{called(path)}: it has more than {MOST_BYTES:,} bytes")
 
 
 def write(path, data):

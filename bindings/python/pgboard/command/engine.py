@@ -2,6 +2,7 @@
 
 # mypy: ignore-errors
 
+import contextlib
 import functools
 import os
 import re
@@ -12,7 +13,7 @@ import time
 from array import array
 from typing import NamedTuple, Optional
 
-from . import FILE, LATE, Refused, child, folder, progress, shown, write
+from . import FILE, LATE, TEXT, Refused, child, in_memory, progress, shown
 from .games import Solution, solution_of
 
 TOP = os.path.abspath(os.path.join(os.path.dirname(__file__), "..", "..", "..", ".."))
@@ -20,6 +21,7 @@ NO_PROGRAM = (
     "there is no pgboard: ./pgboard --unproved builds one in two minutes, "
     "./pgboard --install proves one, or set PGBOARD"
 )
+VERDICT = re.compile(r"not a solution: ((?:no choice|bad choice|bad cycle) at \d+|\d+ leaves to \d+)\n")
 # in seconds, how often a line of progress is shown
 PAUSE = 0.2
 
@@ -41,32 +43,41 @@ def engine():
     a program that is found.
     """
     if os.environ.get("PGBOARD") and not os.environ.get("PGBOARD_LIBRARY"):
-        return Program("")
+        return Program("PGBOARD names a program, and PGBOARD_LIBRARY no library")
     try:
         from .. import solving
 
         return Library(solving)
     except ImportError as error:
+        why = str(error).replace("pgboard: ", "", 1)
         if os.environ.get("PGBOARD_LIBRARY"):
-            raise Refused(str(error), FILE) from None
-        return Program(str(error))
+            raise Refused(why, FILE) from None
+        return Program(why)
 
 
-def solved(game, known=None, timeout=None, partial=False):
+def solved(game, known=None, timeout=None, partial=False, until=None):
     """Solves a game, from what is known of it, and verifies the solution. Late without one where so many
-    seconds were not enough.
+    seconds were not enough. The library ends once it has settled the vertex `until`.
     """
     begun = time.monotonic()
     try:
-        solution, is_whole, entries = engine().solve(game, known, timeout, partial)
+        solution, is_whole, entries = engine().solve(game, known, timeout, partial, until)
     finally:
         progress("")
     found = Solved(solution, is_whole, time.monotonic() - begun, entries)
     if is_whole:
-        said = verdict(game, solution)
-        if said != "ok":
-            raise Refused(f"what pgboard solved was refused: {said or 'no verdict'}", FILE)
+        verify(game, solution)
     return found
+
+
+def verify(game, solution):
+    check(verdict(game, solution))
+
+
+def check(said):
+    """Ends the command where pgboard has found what is no solution."""
+    if said != "ok":
+        raise Refused(f"what pgboard solved was refused: {said}", FILE)
 
 
 def verdict(game, solution):
@@ -97,24 +108,9 @@ class Library:
 
     def arrays(self, game):
         """The identifiers in order, and the game as the library takes it."""
-        if self.last and self.last[0] is game:
-            return self.last[1:]
-        ids = sorted(game.rows)
-        self.numbers, rows = {id: v for v, id in enumerate(ids)}, [game.rows[id] for id in ids]
-        starts, targets = array("I", [0]), array("I")
-        for row in rows:
-            targets.extend([self.numbers[it] for it in row[2]])
-            starts.append(len(targets))
-        self.last = (
-            game,
-            ids,
-            [
-                array("B", [row[1] for row in rows]),
-                array("I", [row[0] for row in rows]),
-                starts,
-                targets,
-            ],
-        )
+        if not self.last or self.last[0] is not game:
+            ids, *arrays = game.arrays()
+            self.numbers, self.last = {id: v for v, id in enumerate(ids)}, (game, ids, arrays)
         return self.last[1:]
 
     def claims(self, ids, solution):
@@ -135,14 +131,14 @@ class Library:
             ids[at],
         )
 
-    def solve(self, game, known, timeout, partial):
+    def solve(self, game, known, timeout, partial, until):
         limits = self.slices.Limits(None if timeout is None else time.monotonic() + timeout)
         ids, arrays = self.arrays(game)
         with self.solving.closing_board() as board:
             board.open(arrays)
             if known:
                 self.post(board, ids, arrays[0], known)
-            is_whole = self.advance(board, limits, len(ids))
+            is_whole = self.advance(board, limits, len(ids), self.numbers.get(until))
             found = self.solving.blank(len(ids))
             board.write("solution" if is_whole else "state", found)
             entries = board.count("entries")
@@ -150,7 +146,7 @@ class Library:
         for id, winner, choice in zip(ids, *found):
             if winner != self.library.NO_WINNER:
                 rows[id] = winner, None if choice == self.library.NO_CHOICE else ids[choice]
-        if not is_whole and not partial:
+        if not is_whole and not partial and until not in rows:
             raise Refused(f"after {timeout:g} s {len(rows)} of {len(ids)} vertices are settled", LATE)
         return Solution(rows), is_whole, entries
 
@@ -169,25 +165,25 @@ class Library:
                 )
                 known.refuse(id, f"known: {said}", 1)
 
-    def advance(self, board, limits, count):
-        """Settles what can be settled within the limits, and says whether it is all."""
-        begun, shown_at = time.monotonic(), [0]
+    def advance(self, board, limits, count, until):
+        """Settles what can be settled within the limits, or a vertex, and says whether it is all."""
+        begun, shown_at, seen = time.monotonic(), 0, 0
 
         def take(steps):
-            done = board.advance(steps)
-            now = time.monotonic()
-            if now - shown_at[0] >= PAUSE:
-                shown_at[0] = now
-                progress(
-                    f"pgboard: {board.count('settled'):,} of {count:,} vertices settled, {int(now - begun)} s"
-                )
+            nonlocal shown_at, seen
+            done, now, settled = board.advance(steps), time.monotonic(), board.count("settled")
+            if now - shown_at >= PAUSE:
+                shown_at = now
+                progress(f"pgboard: {settled:,} of {count:,} vertices settled, {int(now - begun)} s")
+            if until is not None and settled > seen:
+                state, seen = self.solving.blank(count), settled
+                board.write("state", state)
+                done = done._replace(is_last=done.is_last or state.winners[until] != self.library.NO_WINNER)
             return done
 
-        try:
+        with contextlib.suppress(self.faults.TimedOut):
             self.slices.advance(take, count, limits, None)
-        except self.faults.TimedOut:
-            return False
-        return True
+        return board.count("settled") == count
 
     def verify(self, game, solution):
         ids, arrays = self.arrays(game)
@@ -202,12 +198,21 @@ class Library:
 class Program:
     """Solves by the program, which says nothing before its end."""
 
+    # (several may find other choices in another run)
+    workers = 1
+
     def __init__(self, why):
         self.words, self.why, self.warned = program(), why, set()
 
     def run(self, *words, timeout=None):
-        """The status where it is 0 or 1, what is written, and what is said."""
-        status, out, said = child([*self.words, *words], timeout=timeout)
+        """The status where it is 0 or 1, what is written, and what is said. A word in bytes is a file."""
+        with contextlib.ExitStack() as files:
+            held = []
+            for at, word in enumerate(words):
+                if not isinstance(word, str):
+                    held.append(files.enter_context(in_memory(word)).fileno())
+                    words = [*words[:at], f"/dev/fd/{held[-1]}", *words[at + 1 :]]
+            status, out, said = child([*self.words, *words], timeout=timeout, pass_fds=held)
         left = ""
         for line in said.splitlines(keepends=True):
             if not line.startswith(("pgboard: unproved: ", "pgboard: warning: ")):
@@ -216,36 +221,67 @@ class Program:
                 self.warned.add(line)
                 sys.stderr.write(line)
         if status > 1:
-            raise Refused(
-                re.sub("^pgboard: ", "", left.strip()) or f"{self.words[0]}: status {status}", status
-            )
-        return status, out.decode(), left
+            self.refuse(status, left, status)
+        return status, out.decode(errors="replace"), left
 
-    def solve(self, game, known, timeout, partial):
+    def refuse(self, status, said, ends):
+        why = re.sub("^pgboard: ", "", said.strip()) or f"{self.words[0]}: status {status}"
+        raise Refused(why, ends)
+
+    def solution(self, timeout, *words):
+        return self.run("solve", "--workers", str(self.workers), *words, timeout=timeout)
+
+    def solve(self, game, known, timeout, partial, _):
         if partial:
             raise Refused(f"--partial needs the library. {self.why}", FILE)
-        with folder() as made:
-            paths = [os.path.join(made, it) for it in ("game.pg", "part.sol")]
-            write(paths[0], plain(game).written())
-            if known:
-                write(paths[1], known.written())
-            # (several workers may find other choices in another run)
-            words = ["solve", "--workers", "1", *(["--known", paths[1]] if known else []), paths[0]]
-            status, text, said = self.run(*words, timeout=timeout)
+        words = ["--known", data_of(known)] if known else []
+        status, text, said = self.solution(timeout, *words, data_of(plain(game)))
         fault = re.fullmatch(r"pgboard: (known: (?:\D* at )?(\d+).*)\n", said)
         if status and known and fault:
             known.refuse(int(fault[2]), fault[1], 1)
+        if status:
+            self.refuse(status, said, FILE)
         sys.stderr.write(said)
         return solution_of("the solution", text), True, None
 
+    def solve_bytes(self, data, timeout):
+        """A solution's text, which is verified."""
+        status, text, said = self.solution(timeout, data)
+        if status:
+            self.refuse(status, said, FILE)
+        check(self.verify_bytes(data, text.encode()))
+        sys.stderr.write(said)
+        return text
+
     def verify(self, game, solution):
-        with folder() as made:
-            paths = [os.path.join(made, it) for it in ("game.pg", "game.sol")]
-            write(paths[0], plain(game).written())
-            write(paths[1], solution.written())
-            status, said, _ = self.run("verify", *paths)
-        said = re.sub("^not a solution: ", "", said.strip())
-        return f"ok with status {status}" if said == "ok" and status else said
+        return self.verify_bytes(data_of(plain(game)), data_of(solution))
+
+    def verify_bytes(self, *texts):
+        status, out, _ = self.run("verify", *texts)
+        if (status, out) == (0, "ok\n"):
+            return "ok"
+        fault = VERDICT.fullmatch(out)
+        if not status or not fault:
+            said = shown(out.strip()) or "nothing"
+            raise Refused(f"this is no verdict of pgboard's: {said}, with status {status}", FILE)
+        return fault[1]
+
+
+def as_it_is(name, *given):
+    """What a call of the program gives for the bytes of files, or None where the library is called, or where
+    the program refuses what this command may read.
+    """
+    if isinstance(engine(), Program):
+        try:
+            return getattr(engine(), name)(*given)
+        except Refused as refused:
+            if refused.status != TEXT:
+                raise
+    return None
+
+
+def data_of(it):
+    return it.written().encode("utf-8", "surrogateescape")
 
 
 def plain(game):

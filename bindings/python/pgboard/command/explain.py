@@ -27,11 +27,11 @@ class Claim:
         return self.game.rows[id][0]
 
     def successors(self, id):
-        return sorted(self.game.rows[id][2])
+        return sorted(self.game.successors(id))
 
     def kept(self, id):
         """The successors to which a play may go on, where the winner of a vertex keeps to his choices."""
-        return [self.choice(id)] if self.winner(id) == self.owner(id) else self.successors(id)
+        return [self.choice(id)] if self.winner(id) == self.owner(id) else self.game.rows[id][2]
 
     def closed_walk(self, start):
         """A shortest closed walk of kept edges through a vertex, on which no priority is greater than the
@@ -69,9 +69,8 @@ def cycle(claim, id):
     for at, to in edges:
         move = "chooses" if claim.owner(at) == claim.winner(at) else "may move to"
         mark = f"   <- the {game.decides}, and {other}'s" if at == id else ""
-        priority = game.given.get(at, claim.priority(at))
         lines.append(
-            f"  {game.called(at)}: priority {priority}, {PLAYERS[claim.owner(at)]} {move} {to}{mark}"
+            f"  {game.called(at)}: priority {game.priority(at)}, {PLAYERS[claim.owner(at)]} {move} {to}{mark}"
         )
     return lines, edges
 
@@ -90,6 +89,12 @@ def leaving(claim, id, to):
         f"Successors of {id} that {winner} is said to win: {', '.join(map(called, inside)) or 'none'}"
     )
     return lines, [(id, to)]
+
+
+def at_dead_end(claim, id):
+    winner = PLAYERS[claim.winner(id)]
+    line = f"Line {claim.solution.line(id)} of the solution says that {winner} wins {claim.game.called(id)}"
+    return [f"{line}, which {winner} owns. It has no successor, so {winner} loses there."], [(id, id)]
 
 
 def choosing(claim, id):
@@ -116,8 +121,9 @@ def explained(claim, verdict):
     for form, how in FAULTS.items():
         found = re.fullmatch(form, verdict)
         if found:
-            return how(claim, *map(int, found.groups()))
-    raise Refused(f"this is no verdict of pgboard's: {verdict or 'nothing'}", FILE)
+            places = [*map(int, found.groups())]
+            return (at_dead_end if places[0] in claim.game.dead else how)(claim, *places)
+    raise Refused(f"this is no verdict of pgboard's: {verdict}", FILE)
 
 
 def draw(path, claim, marked):

@@ -8,6 +8,7 @@ that its owner loses gets an edge to itself.
 # mypy: ignore-errors
 
 import re
+from array import array
 
 from . import TEXT, WORDS, Refused, called, line_of, printable
 from .texts import Statement, Text, text_of
@@ -29,8 +30,6 @@ START, HEADER, SOLUTION_HEADER = (
 )
 TOKEN = re.compile(r"[0-9]+|[A-Za-z]+|\S|$|\s")
 COMMENT = re.compile(rf"{NAME}|(?:#|//)[^\n]*")
-LISTING = re.compile(r"(?im)^\W*(?:player|won by|winner)\W*(0|1|even|odd)\b[^:\n]*:?(.*)$")
-LISTED = re.compile(r"(?i)(?:\s*with strategy:?)?([\s0-9{}\[\](),;>-]*)")
 # what a text is that is no game, by how it begins, and what to do
 FOREIGN = {
     r"paritysol\b|[^;\n]*(?i:player [01] wins|won by )": "this is a solution, and a game has to be here: "
@@ -73,16 +72,25 @@ def without_comments(text):
     return COMMENT.sub(lambda it: it[0] if it[0][0] == '"' else " " * len(it[0]), text)
 
 
+def check_size(path, vertices, edges):
+    if vertices > MOST_VERTICES or edges > MOST_EDGES:
+        sizes = f"more than {MOST_VERTICES:,} vertices or {MOST_EDGES:,} edges"
+        raise Refused(f"{called(path)}: {sizes}")
+
+
 class Game:
     """A game: of each identifier (priority, owner, successors, name), in the order of the text, and where
     what it came from says so.
     """
 
-    def __init__(self, rows, path="the game", text="", places=None, start=None):
-        self.rows, self.path, self.text, self.places, self.start = rows, path, text, places or {}, start
+    def __init__(self, rows=(), path="the game", text="", start=None):
+        self.rows, self.edges, self.path, self.places, self.start = {}, 0, path, {}, start
         self.source = Text(path, text)
-        # what the text says of priorities, where it is not the game's, and which of them decides
-        self.given, self.decides = {}, "greatest"
+        # what the text says of priorities, where it is not the game's; which of them decides; and the
+        # vertices without successors, which have an edge to themselves here
+        self.given, self.decides, self.dead = {}, "greatest", set()
+        for id, row in dict(rows).items():
+            self.put(id, *row)
 
     @classmethod
     def of_rows(cls, rows):
@@ -91,12 +99,49 @@ class Game:
 
     @classmethod
     def of_text(cls, path, text, rules):
-        game = cls({}, path, text)
+        game = cls((), path, text)
         game.read(rules.min, rules.odd, rules.dead_ends)
         return game
 
+    def put(self, id, priority, owner, successors, name=""):
+        self.rows[id] = priority, owner, successors, name
+        self.edges += len(successors)
+        if len(self.rows) > MOST_VERTICES or self.edges > MOST_EDGES:
+            check_size(self.path, len(self.rows), self.edges)
+
+    def close(self, id):
+        """Gives a vertex without successors an edge to itself: no walk leaves it, so its priority decides."""
+        priority, owner, _, name = self.rows[id]
+        self.given.setdefault(id, priority)
+        self.dead.add(id)
+        self.put(id, 1 - owner, owner, [id], name)
+
+    def successors(self, id):
+        """Those that the text has."""
+        return [] if id in self.dead else self.rows[id][2]
+
+    def priority(self, id):
+        """What the text says of it."""
+        given = self.given.get(id, self.rows[id][0])
+        return "none" if given is None else given
+
+    def arrays(self):
+        """The identifiers in rising order, and for these vertices owners, priorities, where each one's
+        successors begin, and all successors.
+        """
+        ids = sorted(self.rows)
+        numbers, rows = {id: v for v, id in enumerate(ids)}, [self.rows[id] for id in ids]
+        starts, targets = array("I", [0]), array("I")
+        for row in rows:
+            targets.extend([numbers[it] for it in row[2]])
+            starts.append(len(targets))
+        owners, priorities = array("B", [row[1] for row in rows]), array("I", [row[0] for row in rows])
+        return ids, owners, priorities, starts, targets
+
     def read(self, least, odd, closes):
-        text, dead = Text(self.path, without_comments(self.text)), []
+        text, dead = Text(self.path, without_comments(self.source.text)), []
+        # what the header or a flag says that decides
+        says = "min" if least else ""
         for kind, found in statements(text, VERTEX, START, HEADER):
             if kind is VERTEX:
                 id = self.add(found)
@@ -107,28 +152,32 @@ class Game:
             elif self.rows:
                 text.refuse("a header comes before all vertices", found.start(1))
             else:
-                least = least or found[1].startswith("min")
+                word = found[1][:3].replace("par", says)
+                if says and word != says:
+                    other = "--min" if least else "another one"
+                    text.refuse(f"this header contradicts {other}", found.start(1))
+                says = word
         if dead and not closes:
             self.refuse(
-                dead[0], f"vertex {dead[0]} has no successor: with --dead-ends lose its owner loses there"
+                dead[0], f"vertex {dead[0]} has no successor: with --dead-ends its owner loses there"
             )
         self.check()
-        if least or odd:
-            self.turn(least, odd)
+        if says == "min" or odd:
+            self.turn(says == "min", odd)
         for id in dead:
-            # no walk leaves it, so its priority decides
-            _, owner, _, name = self.rows[id]
-            self.rows[id] = 1 - owner, owner, [id], name
+            self.close(id)
 
     def add(self, found):
         id, priority = number_of(self.source, found, 1), number_of(self.source, found, 2)
         _, _, owner, to, name, _ = found.groups()
-        # (a short list has no number that is too large)
-        targets = dict.fromkeys(map(int, to.split(",")) if to and len(to) < 10 else self.numbers(found, to))
+        each = to.split(",") if to else [""]
+        # (numbers of few digits are not too large)
+        is_short = to and len(max(each, key=len)) < 10
+        targets = dict.fromkeys(map(int, each) if is_short else self.numbers(found, to))
         if id in self.rows:
-            self.source.refuse(f"vertex {id} is specified twice", found.start(1))
+            self.source.refuse(f"vertex {id}: specified twice", found.start(1))
         self.places[id] = found.start(1)
-        self.rows[id] = priority, int(owner), list(targets), name[1:-1].replace('\\"', "'") if name else ""
+        self.put(id, priority, int(owner[-1]), list(targets), name[1:-1].replace('\\"', '"') if name else "")
         return id
 
     def numbers(self, found, to):
@@ -149,9 +198,6 @@ class Game:
             for to in row[2]:
                 if to not in self.rows:
                     self.refuse(id, f"vertex {id}: successor {to} is not specified", to)
-        if len(self.rows) > MOST_VERTICES or sum(len(row[2]) for row in self.rows.values()) > MOST_EDGES:
-            sizes = f"more than {MOST_VERTICES:,} vertices or {MOST_EDGES:,} edges"
-            raise Refused(f"{called(self.path)}: {sizes}")
 
     def turn(self, least, odd):
         """Makes the greatest priority decide, and Even win by even ones."""
@@ -172,14 +218,15 @@ class Game:
         at = self.places[id]
         if number is not None:
             match = VERTEX.pattern.match
-            found = match(self.text, at) or match(without_comments(self.text), at)
-            places = {int(it[0]): it.start() for it in reversed([*re.finditer("[0-9]+", found[4])])}
-            at = found.start(4) + places[number]
+            text = self.source.text
+            found = match(text, at) or match(without_comments(text), at)
+            at = re.compile(rf"(?<![0-9])0*{number}(?![0-9])").search(text, found.start(4)).start()
         self.source.refuse(why, at)
 
     def called(self, id):
         """A vertex for people, with its name."""
-        return printable(" ".join(f'{id} "{self.rows[id][3]}"'.split())) if self.rows[id][3] else str(id)
+        name = self.rows[id][3].replace('"', '\\"')
+        return printable(" ".join(f'{id} "{name}"'.split())) if name else str(id)
 
     def written(self):
         """The game's text in PGSolver's format; a name can't hold quotes, so they become single ones."""
@@ -213,7 +260,7 @@ def reached(start, expand):
     `expand` gives the row of a vertex, with vertices as successors. A vertex is anything that a dictionary
     takes.
     """
-    numbers, vertices, rows = {start: 0}, [start], []
+    numbers, vertices, rows, edges = {start: 0}, [start], [], 0
     for vertex in vertices:  # which grows on the way
         priority, owner, successors, name = expand(vertex)
         for to in successors:
@@ -221,8 +268,8 @@ def reached(start, expand):
                 numbers[to] = len(vertices)
                 vertices.append(to)
         rows.append((priority, owner, [numbers[to] for to in dict.fromkeys(successors)], name))
-        if len(vertices) > MOST_VERTICES:
-            raise Refused(f"the game has more than {MOST_VERTICES:,} vertices")
+        edges += len(rows[-1][2])
+        check_size("the game", len(vertices), edges)
     return vertices, rows
 
 
@@ -231,6 +278,12 @@ class Solution:
 
     def __init__(self, rows, path="the solution", text="", places=None):
         self.rows, self.path, self.text, self.places = rows, path, text, places or {}
+
+    def add(self, id, winner, choice, at):
+        """Adds a row, which stands at a place of the text."""
+        self.rows[id], self.places[id] = (winner, choice), at
+        if len(self.rows) > MOST_VERTICES:
+            raise Refused(f"{called(self.path)}: more than {MOST_VERTICES:,} vertices")
 
     def line(self, id):
         return line_of(self.text, self.places[id])
@@ -245,10 +298,10 @@ class Solution:
         for id, (_, choice) in self.rows.items():
             for it in (id, choice):
                 if it is not None and it not in game.rows:
-                    self.refuse(id, f"vertex {it} is not in the game")
+                    self.refuse(id, f"vertex {it}: not in the game")
         for id in game.rows if len(self.rows) < len(game.rows) and not is_part else ():
             if id not in self.rows:
-                raise Refused(f"{called(self.path)}: vertex {id} is not written")
+                raise Refused(f"{called(self.path)}: vertex {id}: not written")
 
     def written(self, names=None):
         """The text, by rising identifiers; with the names of a game's vertices after their lines."""
@@ -267,47 +320,24 @@ def solution_of(path, text):
     Oink print it.
     """
     begun = re.search(r"(?m)^[ \t]*paritysol\b", text)
-    if not begun and LISTING.search(text):
-        return listed(path, text)
-    rows, places, begins = {}, {}, begun.start() if begun else 0
-    lines = " " * begins + without_comments(text[begins:])
-    if begun:
-        lines = re.sub(r"[^\n]", " ", text[:begins]) + lines[begins:]
-    source = Text(path, text)
+    from . import listings
+
+    if not begun and listings.HEAD.search(text):
+        return listings.Listing(path, text).solution
+    begins = begun.start() if begun else 0
+    lines = re.sub(r"[^\n]", " ", text[:begins]) + without_comments(text[begins:])
+    source, solution = Text(path, text), Solution({}, path, text)
     for kind, found in statements(Text(path, lines), CHOICE, SOLUTION_HEADER):
-        if kind is SOLUTION_HEADER:
-            if rows:
-                source.refuse("a header comes before all lines", found.start(1))
-            continue
-        id, choice = number_of(source, found, 1), number_of(source, found, 3)
-        if id in rows:
-            source.refuse(f"vertex {id} is written twice", found.start(1))
-        rows[id], places[id] = (int(found[2]), choice), found.start(1)
-    return Solution(rows, path, text, places)
+        if kind is CHOICE:
+            id, choice = number_of(source, found, 1), number_of(source, found, 3)
+            if id in solution.rows:
+                source.refuse(f"vertex {id}: written twice", found.start(1))
+            solution.add(id, int(found[2][-1]), choice, found.start(1))
+        elif solution.rows:
+            source.refuse("a header comes before all lines", found.start(1))
+    return solution
 
 
-def number_of(text, found, group, at=0):
-    """The number of a group of a match, which begins at a place of a text."""
-    return None if found[group] is None else text.number(found[group], at + found.start(group), MOST)
-
-
-def listed(path, text):
-    rows, places, player, at, source = {}, {}, None, 0, Text(path, text)
-    for line in text.splitlines(keepends=True):
-        head = LISTING.match(line)
-        if head:
-            player = int(head[1].lower() in ("1", "odd"))
-        begins = head.start(2) if head else 0
-        row = LISTED.fullmatch(line, begins)
-        if not row:
-            player = None
-        elif player is not None:
-            for found in re.compile(r"([0-9]+)(?:\s*->\s*([0-9]+))?").finditer(line, begins):
-                vertex, choice = number_of(source, found, 1, at), number_of(source, found, 2, at)
-                winner, before = rows.get(vertex, (player, None))
-                if winner != player:
-                    source.refuse(f"vertex {vertex} is listed for both players", at + found.start())
-                rows[vertex] = player, before if choice is None else choice
-                places.setdefault(vertex, at + found.start())
-        at += len(line)
-    return Solution(rows, path, text, places)
+def number_of(text, found, group):
+    """The number of a group of a match."""
+    return None if found[group] is None else text.number(found[group], found.start(group), MOST)

@@ -55,7 +55,8 @@ class Text(Tokens):
 
     def number(self, below):
         if not self.next_is("a number") or int(self.left[-1].text) >= below:
-            self.refuse(f"expected a number below {below}")
+            known = {0: "no number can stand here", 1: "expected 0"}
+            self.refuse(known.get(below, f"expected a number below {below}"))
         return int(self.take("a number").text)
 
     def string(self):
@@ -231,6 +232,12 @@ class Automaton:
             return max(sets, default=-1) + 2 - odd
         return count + (count + odd) % 2 - min(sets, default=count)
 
+    def number(self, priority):
+        """The number of the set that has this priority, or None."""
+        greatest, odd, count = self.condition
+        number = priority - 2 + odd if greatest else count + (count + odd) % 2 - priority
+        return number if 0 <= number < count else None
+
     def sets(self):
         found = []
         if self.tokens.takes("{"):
@@ -399,32 +406,40 @@ def game_of(automaton, closes):
     controller.
     """
     if automaton.owners is not None:
-        rows = dict(sorted(vertices_of(automaton, closes)))
-        return Game(rows, automaton.tokens.path, automaton.tokens.text, automaton.places, automaton.first)
+        return owned(automaton, closes)
     if closes:
         why = "--dead-ends is for a game, and an automaton needs none"
         raise Refused(f"{called(automaton.tokens.path)}: {why}", WORDS)
     return Game.of_rows(Arena(automaton).rows)
 
 
-def vertices_of(automaton, closes):
-    """The vertices of a game in the HOA format: the identifier, and (priority, owner, successors, name).
-
-    A priority is one more than the automaton's, so that odd ones accept; 0 decides nowhere.
+def owned(automaton, closes):
+    """The game of a game in the HOA format. A priority is one more than the automaton's, so that odd ones
+    accept; 0 decides nowhere.
     """
-    last = max(automaton.edges)
+    game = Game((), automaton.tokens.path, automaton.tokens.text, automaton.first)
+    game.places, last = automaton.places, max(automaton.edges)
+    game.decides = "greatest" if automaton.condition[0] else "least"
+
+    def put(id, own, *row):
+        game.put(id, own + 1, *row)
+        game.given[id] = automaton.number(own)
+
     for state, edges in automaton.edges.items():
         owner, priorities = automaton.owners[state], {it[1] for it in edges}
-        successors, priority = dict.fromkeys(to for _, _, to in edges), 1 + max(priorities, default=-1)
+        successors = dict.fromkeys(to for _, _, to in edges)
         if len(priorities) > 1:
-            successors, priority = [], 0
+            successors = []
             for _, own, to in dict.fromkeys((0, *it[1:]) for it in edges):
                 last += 1
                 successors.append(last)
-                yield last, (own + 1, owner, [to], f"{state} to {to}")
+                put(last, own, owner, [to], f"{state} to {to}")
+            priorities = {-1}
+        put(state, *(priorities or {-1}), owner, list(successors), automaton.called[state])
         if not edges:
             if not closes:
-                why = f"state {state} has no edge: with --dead-ends lose its owner loses there"
+                why = f"state {state} has no edge: with --dead-ends its owner loses there"
                 automaton.tokens.refuse(why, automaton.places[state])
-            successors, priority = [state], 1 - owner
-        yield state, (priority, owner, list(successors), automaton.called[state])
+            game.close(state)
+    game.rows = dict(sorted(game.rows.items()))
+    return game

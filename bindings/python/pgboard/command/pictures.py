@@ -5,7 +5,7 @@
 import html
 import shutil
 
-from . import FILE, Refused, child, printable, write
+from . import FILE, Refused, called, child, printable, write
 
 MOST_DRAWN, MOST_LETTERS = 200, 30
 KINDS = ("dot", "svg", "png", "pdf")
@@ -53,9 +53,9 @@ def label(id, priority, name):
 
 def vertex(game, id, winner, more=""):
     """The line of a vertex, of Even a diamond and of Odd a box, with its winner's colours."""
-    priority, owner, _, name = game.rows[id]
+    _, owner, _, name = game.rows[id]
     shape = "box" if owner else "diamond"
-    text = label(id, game.given.get(id, priority), name)
+    text = label(id, game.priority(id), name)
     return f"    {id} [shape={shape} label=<{text}> {STYLES[winner]}{more}];"
 
 
@@ -71,11 +71,11 @@ def graph(vertices, edges):
 def of_game(game, solution):
     """The Graphviz text of a game; its solution may leave vertices open."""
     edges = []
-    for id, (_, owner, successors, _) in sorted(game.rows.items()):
+    for id, (_, owner, _, _) in sorted(game.rows.items()):
         winner, choice = solution.get(id, (None, None))
         edges += [
             edge(id, to, "style=bold penwidth=2.5" if winner == owner and to == choice else "")
-            for to in sorted(successors)
+            for to in sorted(game.successors(id))
         ]
     return graph([vertex(game, id, solution.get(id, [None])[0]) for id in sorted(game.rows)], edges)
 
@@ -103,7 +103,9 @@ def write_picture(path, count, text):
 
 def check_count(path, count):
     if count > MOST_DRAWN:
-        raise Refused(f"{path}: {count} vertices are too many for a picture: at most {MOST_DRAWN} are drawn")
+        raise Refused(
+            f"{called(path)}: {count} vertices are too many for a picture: at most {MOST_DRAWN} are drawn"
+        )
 
 
 def made_by_dot(text, kind):

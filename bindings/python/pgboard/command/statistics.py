@@ -39,8 +39,8 @@ def component_sizes(edges):
 
 def of_game(game):
     """What `stats` says of a game, by name."""
-    edges = {id: row[2] for id, row in game.rows.items()}
-    priorities = [game.given.get(id, row[0]) for id, row in game.rows.items()]
+    edges = {id: game.successors(id) for id in game.rows}
+    priorities = [it for it in map(game.priority, game.rows) if it != "none"] or ["none"]
     into = Counter(to for row in edges.values() for to in row)
     sizes = component_sizes(edges)
     return {
@@ -53,7 +53,7 @@ def of_game(game):
             "different": len(set(priorities)),
         },
         "own loops": sum(id in row for id, row in edges.items()),
-        "greatest degrees": {"out": max(map(len, edges.values())), "in": max(into.values())},
+        "greatest degrees": {"out": max(map(len, edges.values())), "in": max(into.values(), default=0)},
         "components": {"number": len(sizes), "greatest": max(sizes), "least": min(sizes)},
     }
 

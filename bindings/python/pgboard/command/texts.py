@@ -8,10 +8,11 @@ import importlib
 import io
 import re
 import shutil
+import subprocess
 import zlib
 from typing import NamedTuple
 
-from . import Refused, called, child, read, shown
+from . import Refused, begun, called, in_memory, pieces, read, shown
 
 # how packed files begin, and the module that unpacks them; `zstd` is a command
 PACKED = {b"\x1f\x8b": "gzip", b"BZh": "bz2", b"\xfd7zXZ\0": "lzma", b"\x28\xb5\x2f\xfd": "zstd"}
@@ -24,34 +25,48 @@ def unpacked(path, data, kind):
     if kind == "zstd":
         if not shutil.which(kind):
             raise Refused(f"{called(path)}: the command zstd, which unpacks it, is not on the PATH")
-        status, data, said = child([kind, "-dc"], data)
-        if status:
-            raise Refused(f"{called(path)}: it can't be unpacked: {said.strip()}")
-        return data
+        return by_zstd(path, data)
     module = importlib.import_module(kind)
     try:
-        return module.open(io.BytesIO(data)).read()
+        return pieces(path, module.open(io.BytesIO(data)))
     except (OSError, EOFError, zlib.error, getattr(module, "LZMAError", OSError)) as error:
         raise Refused(f"{called(path)}: it can't be unpacked: {error}") from error
 
 
-def text_of(path):
-    """The text of a file, or for `-` of standard input, unpacked and without a byte order mark."""
-    data = read(path)
-    for begins, kind in PACKED.items():
-        if data.startswith(begins):
-            data = unpacked(path, data, kind)
-            break
+def by_zstd(path, data):
+    with in_memory(data) as given, in_memory() as said:
+        with begun(["zstd", "-dc"], stdin=given, stdout=subprocess.PIPE, stderr=said) as process:
+            data = pieces(path, process.stdout)
+            if process.wait():
+                said.seek(0)
+                why = said.read().decode(errors="replace").strip()
+                raise Refused(f"{called(path)}: it can't be unpacked: {why}")
+    return data
+
+
+def bytes_of(*paths):
+    """The bytes of files, of which one may be standard input, unpacked."""
+    if paths.count("-") > 1:
+        raise Refused("- is standard input, which can't be two files", 2)
+    for path in paths:
+        data = read(path)
+        packed = next((kind for begins, kind in PACKED.items() if data.startswith(begins)), None)
+        yield unpacked(path, data, packed) if packed else data
+
+
+def decoded(path, data):
+    """The text of a file, without a byte order mark."""
     if data.startswith((b"\xff\xfe", b"\xfe\xff")):
         raise Refused(f"{called(path)}: {UTF_16}")
     return data.decode("utf-8", "surrogateescape").lstrip("\ufeff")
 
 
 def texts_of(*paths):
-    """The texts of files, of which one may be standard input."""
-    if paths.count("-") > 1:
-        raise Refused("- is standard input, which can't be two files", 2)
-    return [text_of(it) for it in paths]
+    return [decoded(*it) for it in zip(paths, bytes_of(*paths))]
+
+
+def text_of(path):
+    return texts_of(path)[0]
 
 
 class Text:
@@ -65,13 +80,19 @@ class Text:
 
     def expect(self, wanted, begins, ends):
         """Refuses what stands between two places, since something else is expected."""
-        found = shown(self.text[begins:ends]) or "the end of the text"
+        found = shown(self.text[begins:ends])
+        if not found:
+            # (the line that lacks something is the last one that has something)
+            begins, found = min(begins, len(self.text.rstrip())), "the end of the text"
         self.refuse(f"expected {wanted}, found {found}", begins)
 
     def number(self, digits, at, most):
         """The number of these digits at a place."""
-        if len(digits) > 9 and (len(digits.lstrip("0")) > 10 or int(digits) > most):
-            self.refuse(f"this number is above {most}", at)
+        if len(digits) > 9:
+            # (`int` refuses thousands of zeros)
+            digits = digits.lstrip("0") or "0"
+            if len(digits) > 10 or int(digits) > most:
+                self.refuse(f"this number is above {most}", at)
         return int(digits)
 
 

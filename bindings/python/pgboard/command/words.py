@@ -13,12 +13,14 @@ import json
 import re
 import sys
 
+from ..version import __version__
 from . import engine, explain, pictures, statistics
 from .games import PLAYERS, Game, Solution, game_of, game_of_text, solution_of
-from .texts import Text, text_of, texts_of
+from .texts import Text, bytes_of, decoded, text_of, texts_of
 
 # (of a word, what its own statuses say comes before)
-STATUSES = "2 where the command line was refused, 3 a text, 4 a file or the output, 5 memory"
+STATUSES = "2 where the command line was refused, 3 a text, 4 a file or the output, 5 memory, "
+STATUSES += "7 where the command itself has a mistake"
 DONE, JUDGED = "0 where it is done, ", "0 where it is a solution, 1 where it is none, "
 CONVERT = """Writes a game in the form that pgboard reads, or with --solution a solution.
 
@@ -42,6 +44,7 @@ its player is said to win, it shows the other ways. For a choice that is missing
 shows the line and what could be there."""
 VERIFY = "Says whether a solution is one, and if not, what is wrong first."
 STATS = "Counts vertices, edges, owners, priorities, own loops, degrees and components."
+NO_CHOICES = "without choices only winners can be compared, with those of `solve --winners`"
 DRAW = """Draws a game as Graphviz text, or as a picture by Graphviz's `dot`, on standard output.
 
 Even owns the diamonds and Odd the boxes. What Even wins is light with a plain border, what Odd wins is dark
@@ -73,12 +76,13 @@ def add_game(word, solution=None):
         "--odd", action="store_true", help="player 0 wins by odd priorities, and player 1 by even ones"
     )
     word.add_argument(
-        "--dead-ends", choices=["lose"], help="the owner of a vertex without successors loses there"
+        "--dead-ends", action="store_true", help="the owner of a vertex without successors loses there"
     )
 
 
 def add_timeout(word):
-    word.add_argument("--timeout", metavar="S", type=seconds, help="end after so many seconds, with status 6")
+    said = "end the search after so many seconds, with status 6; to read, verify and write takes more"
+    word.add_argument("--timeout", metavar="S", type=seconds, help=said)
 
 
 def add_json(word):
@@ -90,8 +94,12 @@ def print_json(value):
     print()
 
 
+def has_rules(given):
+    return given.min or given.odd or given.dead_ends
+
+
 def convert(given):
-    if given.solution and (given.min or given.odd or given.dead_ends):
+    if given.solution and has_rules(given):
         raise Refused("--min, --odd and --dead-ends are for a game, and --solution is for a solution", WORDS)
     if not given.solution:
         return print(game_of(given.game, given).written(), end="")
@@ -104,9 +112,17 @@ def convert(given):
 def solve(given):
     if given.partial and not given.timeout:
         raise Refused("--partial comes with --timeout", WORDS)
-    text, *known = texts_of(given.game, *([given.known] if given.known else []))
-    game = game_of_text(given.game, text, given)
-    known = solution_of(given.known, known[0]) if known else None
+    if not 1 <= given.workers <= 64:
+        raise Refused(f"--workers: from 1 to 64 threads, not {given.workers}", WORDS)
+    engine.engine().workers = given.workers
+    data, *known = bytes_of(given.game, *([given.known] if given.known else []))
+    reads = has_rules(given) or given.json or given.stats or given.keep_names or given.partial
+    if not (known or reads or given.winners):
+        text = engine.as_it_is("solve_bytes", data, given.timeout)
+        if text is not None:
+            return print(text, end="")
+    game = game_of_text(given.game, decoded(given.game, data), given)
+    known = solution_of(given.known, decoded(given.known, known[0])) if known else None
     if known:
         known.check(game, is_part=True)
     found = engine.solved(game, known, given.timeout, given.partial)
@@ -119,7 +135,9 @@ def solve(given):
         ]
         print_json({"is_whole": found.is_whole, "solution": rows, **({"stats": numbers} if numbers else {})})
     else:
-        print(found.solution.written(game.rows if given.keep_names else None), end="", flush=True)
+        rows = found.solution.rows
+        shown = Solution({id: (it[0], None) for id, it in rows.items()}) if given.winners else found.solution
+        print(shown.written(game.rows if given.keep_names else None), end="", flush=True)
         print(statistics.text(numbers), end="", file=sys.stderr)
     if not found.is_whole:
         raise Refused(
@@ -128,16 +146,22 @@ def solve(given):
         )
 
 
-def judged(given):
+def judged(given, data):
     """A game, a solution, and what is said of it."""
-    texts = texts_of(given.game, given.solution)
+    texts = [decoded(*it) for it in zip((given.game, given.solution), data)]
     game, solution = game_of_text(given.game, texts[0], given), solution_of(given.solution, texts[1])
     solution.check(game)
     return game, solution, engine.verdict(game, solution)
 
 
 def verify(given):
-    _, _, said = judged(given)
+    data = [*bytes_of(given.game, given.solution)]
+    said = None if has_rules(given) else engine.as_it_is("verify_bytes", *data)
+    said = said or judged(given, data)[2]
+    if said.startswith("no choice"):
+        solution = solution_of(given.solution, decoded(given.solution, data[1]))
+        if all(choice is None for _, choice in solution.rows.values()):
+            print(f"pgboard: {NO_CHOICES}", file=sys.stderr)
     if given.json:
         fault = {} if said == "ok" else {"fault": said}
         print_json({"is_solution": said == "ok", **fault})
@@ -147,7 +171,7 @@ def verify(given):
 
 
 def explains(given):
-    game, solution, said = judged(given)
+    game, solution, said = judged(given, bytes_of(given.game, given.solution))
     if said == "ok":
         print(said)
         return 0
@@ -170,7 +194,7 @@ def reached(game, solution, start):
         moves.update(dict.fromkeys(new))
         vertices += new
     part = Game({id: (*game.rows[id][:2], moves[id], game.rows[id][3]) for id in sorted(moves)}, start=start)
-    part.given = game.given
+    part.given, part.dead = game.given, game.dead
     return part
 
 
@@ -181,9 +205,12 @@ def winner(given):
         lacks = "no line `start` names a vertex: --vertex does"
         why = lacks if start is None else f"there is no vertex {start}"
         raise Refused(f"{called(given.game)}: {why}")
-    solution = engine.solved(game, timeout=given.timeout).solution.rows
+    found = engine.solved(game, timeout=given.timeout, until=start)
+    solution = found.solution.rows
     part, player = reached(game, solution, start), solution[start][0]
     rows = {id: solution[id] for id in part.rows}
+    if not found.is_whole:
+        engine.verify(part, Solution(rows))
     if given.json:
         reach = {"reach": sorted(part.rows)} if given.reach else {}
         print_json({"vertex": start, "winner": player, **reach})
@@ -201,15 +228,14 @@ def winner(given):
 def journal_of(path, text):
     """The entries of a trace, each with the (winner, choice or None) of the vertices that it settles."""
     entries, at = [], 0
-    for line in text.splitlines(keepends=True):
+    for line in re.findall(r"[^\n]*\n|[^\n]+", text):
         head = re.fullmatch(r"entry \d+ \d+ ([01]) \d+ \d+\n", line)
         row = re.fullmatch(r"([0-9]{1,10})(?: ([0-9]{1,10}))?;\n", line)
         if head:
             player = int(head[1])
             entries.append(Solution({}, path, text))
         elif row and entries:
-            entries[-1].rows[int(row[1])] = player, row[2] and int(row[2])
-            entries[-1].places[int(row[1])] = at
+            entries[-1].add(int(row[1]), player, row[2] and int(row[2]), at)
         elif line.startswith("report "):
             return entries
         elif not line.startswith("journal "):
@@ -253,8 +279,24 @@ def stats(given):
     return print(statistics.text(numbers), end="")
 
 
+def add_solving(it):
+    it.add_argument("--known", metavar="FILE", help="begin from a part of a solution")
+    add_timeout(it)
+    it.add_argument("--partial", action="store_true", help="with --timeout: write what is settled by then")
+    said = "over a program: so many threads, up to 64, look for what a player wins (1)"
+    it.add_argument("--workers", metavar="N", type=number, default=1, help=said)
+    it.add_argument("--winners", action="store_true", help="write winners alone, without choices")
+    it.add_argument("--keep-names", action="store_true", help="write the name of a vertex after its line")
+    it.add_argument(
+        "--stats",
+        action="store_true",
+        help="also write what `stats` does, winners, time and entries, to standard error",
+    )
+
+
 def parser():
     top = Parser(__doc__, "`WORD --help` says more of a word.", False, prog="python3 -m pgboard")
+    top.add_argument("--version", action="version", version=f"pgboard {__version__}")
     words = top.add_subparsers(metavar="WORD", required=True, parser_class=Parser)
 
     def word(call, name, about, status=DONE, solution=None):
@@ -266,15 +308,7 @@ def parser():
 
     late = "6 where --timeout was not enough, "
     it = word(solve, "solve", SOLVE, f"{DONE}1 where what is known does not hold, {late}")
-    it.add_argument("--known", metavar="FILE", help="begin from a part of a solution")
-    add_timeout(it)
-    it.add_argument("--partial", action="store_true", help="with --timeout: write what is settled by then")
-    it.add_argument("--keep-names", action="store_true", help="write the name of a vertex after its line")
-    it.add_argument(
-        "--stats",
-        action="store_true",
-        help="also write what `stats` does, winners, time and entries, to standard error",
-    )
+    add_solving(it)
     add_json(it)
     add_json(word(verify, "verify", VERIFY, JUDGED, "one"))
     it = word(explains, "explain", EXPLAIN, JUDGED, "one")
@@ -282,9 +316,8 @@ def parser():
     it = word(winner, "winner", WINNER, f"0 where Even wins, 1 where Odd wins, {late}")
     it.add_argument("--vertex", metavar="V", type=number, help="the vertex, by its identifier")
     add_timeout(it)
-    it.add_argument(
-        "--reach", action="store_true", help="write the part that a play from there can reach, as a solution"
-    )
+    said = "write the part that a play from there can reach, as a solution"
+    it.add_argument("--reach", action="store_true", help=said)
     it.add_argument("--game", dest="part", metavar="FILE", help="write that part as a game of one player")
     pictures.add_option(it, "that part")
     add_json(it)

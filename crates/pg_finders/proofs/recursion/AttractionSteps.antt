@@ -58,6 +58,7 @@ module _ {g : Graph} {p : Player} {A A' : VertexSet} {old new : Plan} {prefix : 
     active_is = λ w. h.now w ∙ ap (λ b. A w && not b) (sym (or-false (v == w)));
     his = λ w i. subst (λ u. winners_of new u ≡ p) (one_listed v w i) h.winner;
     same = λ w n. h.elsewhere w (λ e. no_both (subst (In A) (sym e) h.active) n);
+    elsewhere = λ w n. h.elsewhere w (λ e. no_both (or_left (v == w) false (eq-eqb v w (sym e))) n);
     leads = λ w i. subst (λ u. owner_of g u ≡ p → (x : ℕ) × (choices_of new u ≡ Some x) × HasEdge g u x × Before (prefix ++ v ∷ []) u x) (one_listed v w i)
         (λ o. (let c = h.leads.own o in (c.0, c.1, c.2, earlier c.0 c.3)));
     pushed = λ w x i o e u. subst (λ y. owner_of g y ≡ opponent p → HasEdge g y x → Before (prefix ++ v ∷ []) y x) (one_listed v w i)
@@ -100,10 +101,6 @@ module _ {g : Graph} {p : Player} {A A' : VertexSet} {old new : Plan} {prefix li
   pub prefix_taken : take (length prefix) list ≡ prefix
   prefix_taken = search (rules, h.list_is, take-append-le, h.more, take_all)
 
-  -- what is not in the list is not in its prefix
-  pub prefix_misses : (v : ℕ) → listed list v ≡ false → listed prefix v ≡ false
-  prefix_misses v n = false_from_ne_true (listed prefix v) (λ y. no_both (grown_prefix v y) n)
-
   -- all is done, so the list is what the player attracts to its prefix
   pub grown_attracted : AttractsNoActive g p (union A (listed prefix)) (listed list) A'
       → IsAttracted g p (union A (listed prefix)) (listed prefix) (listed list) (choices_of new) (place list)
@@ -144,6 +141,11 @@ module _ {g : Graph} {p : Player} {A A1 A2 : VertexSet} {old mid new : Plan} {pr
         ∙ (minus_both (A v) (listed a.more v) (listed b.more v) ∙ ap (λ x. A v && not x) (sym (listed-append a.more b.more v))));
     his = λ v i. elim (which v i) [ inl y ↦ (b.same v (grown_taken a v y)).0 ∙ a.his v y | inr y ↦ b.his v y ];
     same = λ v n. (let x = a.same v n in let y = b.same v (grown_fewer a v n) in (y.0 ∙ x.0, y.1 ∙ x.1));
+    elsewhere = λ v n. (
+        let m = or_parts (listed a.more v) (listed b.more v) (sym (listed-append a.more b.more v) ∙ n) in
+        let x = a.elsewhere v m.0 in
+        let y = b.elsewhere v m.1 in
+        (y.0 ∙ x.0, y.1 ∙ x.1));
     leads = λ v i o. elim (which v i) [
       | inl y ↦ (let h = a.leads v y o in (h.0, (b.same v (grown_taken a v y)).1 ∙ h.1, h.2, later v h.0 y h.3))
       | inr y ↦ b.leads v y o
@@ -161,17 +163,6 @@ once_push xs v o n = once_join xs (v ∷ []) o (refl, tt) (apart_from xs (v ∷ 
 pub apart_push : (xs : List ℕ) (v : ℕ) (A A' : VertexSet) → ((w : ℕ) → In (listed xs) w → A w ≡ false) → ((w : ℕ) → A' w ≡ without A (λ u. v == u) w)
     → (w : ℕ) → In (listed (xs ++ v ∷ [])) w → A' w ≡ false
 apart_push xs v A A' apart now w i = search (rules, prefix_or_rest, and_left, and_right, not_from_true, eq-eqb, one_listed)
-
--- Nothing more is attracted: as it is said of the vertices that are not listed, and of the active ones.
-pub no_active : {g : Graph} {p : Player} {U D A S : VertexSet} → ((v : ℕ) → In S v → A v ≡ false) → ((v : ℕ) → union A S v ≡ U v)
-    → AttractsNoFurther g p U D S → AttractsNoActive g p U D A
-no_active {g = g} {p = p} {U = U} {A = A} {S = S} apart same d = record {
-  own = λ v w i. d.own v w (sym (same v) ∙ or_left (A v) (S v) i) (out v i);
-  other = λ v i o. d.other v (sym (same v) ∙ or_left (A v) (S v) i) (out v i) (not_own p (owner_of g v) o);
-}
-  where
-    out : (v : ℕ) → In A v → S v ≡ false
-    out v i = false_from_ne_true (S v) (λ y. no_both i (apart v y))
 
 pub no_further : {g : Graph} {p : Player} {D A S : VertexSet} → AttractsNoActive g p (union A S) D A → AttractsNoFurther g p (union A S) D S
 no_further {g = g} {p = p} {A = A} {S = S} d = search (rules, d.own, d.other, other_from_not, or_cases, no_both)

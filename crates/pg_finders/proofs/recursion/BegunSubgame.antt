@@ -79,11 +79,10 @@ module _ {g : Graph} {p : Player} {A B L : VertexSet} {before given now : Plan} 
       IsAttracted-subst listed_is
       (subst (λ Z. IsAttracted g p Z (listed target) (listed list) (choices_of now) (place list)) (fun_ext h.both) (grown_attracted h.grown h.done))
 
-  pub in_place_begun : IsBegun g A L p (winners_of now) (choices_of now)
+  pub in_place_begun : IsBegun g A (listed target) L p (winners_of now) (choices_of now)
   in_place_begun = record {
     subgame = h.subgame;
     within = λ v i. sym (grown_union h.grown v ∙ h.both v) ∙ or_left (L v) (listed list v) i;
-    target = listed target;
     rank = place list;
     above = h.above;
     attracted = attracted_here;

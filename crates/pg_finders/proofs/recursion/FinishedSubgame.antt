@@ -1,69 +1,106 @@
--- What the loop owes where it finishes the last subgame that waits: all is settled as the player's, or what the opponent won and
--- attracts is settled and the others are active again.
-use Rattle.pg_finders.proofs.Common.{◌≡◌, ◌≢◌, ℕ, ◌+◌, ◌-◌, ◌<◌, Bool, true, false, ◌&&◌, ◌||◌, not, ◌⊎◌, inl, inr, List, [], ◌∷◌, ◌++◌, length, take, drop}
-use Rattle.pg_finders.proofs.Common.{map, refl, sym, ◌∙◌, ap, subst, arith, append_assoc, length-append, rules, fun_ext, append-nil, take-append-drop}
-use Rattle.pg_finders.proofs.Common.{and_parts, cases_Bool, or_cases, or_left, or_right, or_parts, false_from_ne_true, Player, opponent, same_player, Graph}
-use Rattle.pg_finders.proofs.Common.{HasEdge, owner_of, VertexSet, In, members, union, without, IsSubgame, own_or_other, same_is, Plan, Frame, listed, Once}
-use Rattle.pg_finders.proofs.Common.{Apart, SettledLists, settled_of, winners_of, choices_of, size, IsBegun, IsSolvedInside, IsAttracted, won_inside, active_of}
-use Rattle.pg_finders.proofs.Common.{place, IsKnown, HasTaken, AttractsNoActive, count_at, prefix, level_at, AreOpenLevels, IsSolverState, how_many_gone, steps_left}
-use Rattle.pg_finders.proofs.Common.{work, steps}
+-- What the loop owes where it finishes the last subgame that waits: all is settled as the player's.
+use Rattle.pg_finders.proofs.Common.{◌≡◌, ℕ, ◌+◌, ◌-◌, ◌<◌, ◌≤◌, Bool, false, ◌&&◌, ◌||◌, not, ◌⊎◌, inl, inr, List, [], ◌∷◌, ◌++◌, length, take, drop, All}
+use Rattle.pg_finders.proofs.Common.{map, refl, sym, ◌∙◌, ap, subst, arith, append_assoc, rules, take-append-drop, take_all, or_parts, false_from_ne_true, Player, Even, Odd}
+use Rattle.pg_finders.proofs.Common.{opponent, Graph, VertexSet, In, members, own_or_other, Plan, Frame, Once, Apart, listed, SettledLists, settled_of}
+use Rattle.pg_finders.proofs.Common.{winners_of, choices_of, size, IsBegun, IsSolvedInside, active_of, count_at, prefix, level_at, AreOpenLevels, IsSolverState}
+use Rattle.pg_finders.proofs.Common.{how_many_gone, steps_left, work, steps}
 use Rattle.std.proofs.Common.{length-drop}
+use Rattle.std.specs.Prelude.{◌^◌}
 use Rattle.pg_finders.specs.declared.recursion.Solver.{Solver}
-use Rattle.pg_finders.proofs.Sets.{not_both, twice, no_both, equal_from, only, minus}
-use Rattle.pg_finders.proofs.recursion.ListsAsSets.{in_prefix, in_rest, prefix_or_rest, in_take, in_drop, take_or_drop, once_join, once_drop, once_right, take_apart}
-use Rattle.pg_finders.proofs.recursion.ListsAsSets.{apart_from, some_length}
-use Rattle.pg_finders.proofs.SolvedSubgames.{IsSolvedTo-subst, IsSubgame-subst, all_won, part_lost, left_is_subgame}
-use Rattle.pg_finders.proofs.recursion.AttractionSteps.{grown_cases, grown_attracted, grown_inside, grown_union}
-use Rattle.pg_finders.proofs.recursion.WaitingLevels.{waits_away}
-use Rattle.pg_finders.proofs.recursion.RepeatedAttraction.{won_parts, won_from, list_behind, grown_behind, done_behind}
-use Rattle.pg_finders.proofs.recursion.BegunSubgame.{rest_active}
-use Rattle.pg_finders.proofs.recursion.SharedLists.{gone_settled, part_of}
-use Rattle.pg_finders.proofs.recursion.LoopSteps.{Finishes, lists_fit, stop_fits, last_waits, last_begun, since_inside, since_left, aside_inside, inside_cases}
-use Rattle.pg_finders.proofs.recursion.LoopSteps.{left_cases, left_solved, won_since, stops_kept, finish_more, open_levels_finish}
+use Rattle.pg_finders.specs.private.recursion.Settled.{IsPlaced}
+use Rattle.pg_finders.proofs.Sets.{no_both, only, minus}
+use Rattle.pg_finders.proofs.Sizes.{size_below}
+use Rattle.pg_finders.proofs.Masks.{inside_mask}
+use Rattle.pg_finders.proofs.recursion.ListsAsSets.{in_prefix, in_rest, prefix_or_rest, in_drop, once_join, once_drop, apart_from, some_length, all_below}
+use Rattle.pg_finders.proofs.SolvedSubgames.{IsSolvedTo-subst, all_won}
+use Rattle.pg_finders.proofs.recursion.SharedLists.{gone_aside}
+use Rattle.pg_finders.proofs.recursion.LoopSteps.{Finishes, lists_fit, stop_fits, last_begun, since_inside, since_left, aside_inside, inside_cases, left_cases}
+use Rattle.pg_finders.proofs.recursion.LoopSteps.{left_solved, stops_kept, finish_more, open_levels_finish}
 use Rattle.pg_finders.proofs.recursion.StepBounds.{work_finish}
 
 -- the last subgame that waits is at its end: nothing of it is active
 pub record IsAtEnd (g : Graph) (inside : List Bool) (x : Solver) (frames : List Frame) (f : Frame) : Type 0 where
   pub running : IsSolverState g inside x (frames ++ f ∷ [])
-  pub none : (v : ℕ) → active_of x.subgame v ≡ false
+  pub none : (v : ℕ) → active_of x.parts.subgame v ≡ false
 
 pub at_end : {g : Graph} {inside : List Bool} {x : Solver} (frames : List Frame) (f : Frame) → IsSolverState g inside x (frames ++ f ∷ [])
-    → ((v : ℕ) → active_of x.subgame v ≡ false) → IsAtEnd g inside x frames f
+    → ((v : ℕ) → active_of x.parts.subgame v ≡ false) → IsAtEnd g inside x frames f
 at_end frames f running none = record { running = running; none = none }
+
+-- each list gets what was set aside, and nothing else but the number of those that wait has changed
+pub record Closes (g : Graph) (x z : Solver) (fs : List Frame) (f : Frame) : Type 0 where
+  pub subgame : z.parts.subgame ≡ x.parts.subgame
+  pub order : z.order ≡ x.order
+  pub size : z.size ≡ x.size
+  pub frames : z.frames.items ≡ fs
+  pub set_aside : z.set_aside.items ≡ take f.set_aside x.set_aside.items
+  pub own : settled_of z.parts.settled f.player ≡ settled_of x.parts.settled f.player ++ drop f.set_aside x.set_aside.items
+  pub other : settled_of z.parts.settled (opponent f.player) ≡ settled_of x.parts.settled (opponent f.player)
+  pub placed : IsPlaced (length g) z.parts.settled
+
+either_length : (settled : SettledLists) (p : Player) → length (settled p) ≤ length (settled Even) + length (settled Odd)
+either_length settled Even = omega arith
+either_length settled Odd = omega arith
+
+-- What was set aside since the last subgame that waits was begun may be settled: the part of the list from the frame's place on.
+module _ {g : Graph} {inside : List Bool} {x : Solver} (frames : List Frame) (f : Frame) (h : IsSolverState g inside x (frames ++ f ∷ [])) {ys : List ℕ}
+    (same : ys ≡ x.set_aside.items) where
+  abbrev part_from : List ℕ
+  part_from = take (length ys - f.set_aside) (drop f.set_aside ys)
+
+  pub place_within : f.set_aside ≤ length ys
+  place_within = rw same (stop_fits frames f h.open_levels).1
+
+  pub part_is : part_from ≡ drop f.set_aside x.set_aside.items
+  part_is = take_all (length ys - f.set_aside) (drop f.set_aside ys) (omega (arith, length-drop f.set_aside ys)) ∙ ap (drop f.set_aside) same
+
+  in_aside : (v : ℕ) → In (listed (drop f.set_aside x.set_aside.items)) v → In (listed x.set_aside.items) v
+  in_aside = in_drop f.set_aside x.set_aside.items
+
+  pub part_below : All (λ v. v < length g) part_from
+  part_below = rw part_is (all_below (length g) (drop f.set_aside x.set_aside.items) (λ v i.
+      (let l = inside_mask inside v (h.open_levels.listed_inside v (gone_aside (settled_of x.parts.settled) x.set_aside.items v (in_aside v i))) in
+      omega (arith, l, h.inside_length))))
+
+  pub part_few : length g < 2 ^ 32 → length (settled_of x.parts.settled f.player) + length part_from < 2 ^ 32
+  part_few l =
+      let fits = lists_fit inside h.open_levels.apart h.open_levels.listed_inside in
+      let less = size_below inside in
+      let rest = length-drop f.set_aside x.set_aside.items in
+      rw part_is (omega (arith, l, fits, less, rest, h.inside_length, either_length (settled_of x.parts.settled) f.player))
+
+  pub part_once : Once part_from
+  part_once = rw part_is (once_drop f.set_aside x.set_aside.items h.open_levels.apart.aside_once)
+
+  pub part_fresh : (p : Player) → Apart (settled_of x.parts.settled p) part_from
+  part_fresh p = subst (λ xs. Apart (settled_of x.parts.settled p) xs) (sym part_is)
+      (apart_from (settled_of x.parts.settled p) (drop f.set_aside x.set_aside.items) (λ v i j.
+      no_both (in_aside v j) (h.open_levels.apart.aside_apart p v i)))
 
 -- it is finished: the others that wait are as they were, and fewer steps are left
 pub record IsFinished (g : Graph) (inside : List Bool) (x : Solver) (frames : List Frame) (f : Frame) (active : VertexSet) (settled : SettledLists)
     (new : Plan) : Type 0 where
   pub open_levels : AreOpenLevels g (members inside) active settled (take f.set_aside x.set_aside.items) frames (winners_of new) (choices_of new)
   pub kept : map (level_at (members inside) settled (take f.set_aside x.set_aside.items)) frames
-      ≡ map (level_at (members inside) (settled_of x.settled) x.set_aside.items) frames
+      ≡ map (level_at (members inside) (settled_of x.parts.settled) x.set_aside.items) frames
   pub fewer : steps (size inside - how_many_gone settled (take f.set_aside x.set_aside.items)) + steps_left (size inside) frames < work (size inside) x
       (frames ++ f ∷ [])
-
--- what the opponent attracts to what he won is settled for him, C is active, and what the player won since is settled no more
-pub record Retakes (g : Graph) (f : Frame) (A : VertexSet) (old : Plan) (settled settled' : SettledLists) (C : VertexSet) (new : Plan) : Type 0 where
-  pub some : length (settled (opponent f.player)) ≢ count_at f (opponent f.player)
-  pub grown : HasTaken g (opponent f.player) A old (settled (opponent f.player)) C new (settled' (opponent f.player))
-  pub done : AttractsNoActive g (opponent f.player) (union A (listed (settled (opponent f.player)))) (listed (settled' (opponent f.player))) C
-  pub once : Once (settled' (opponent f.player))
-  pub apart : (v : ℕ) → In (listed (settled' (opponent f.player))) v → C v ≡ false
-  pub own : settled' f.player ≡ prefix f settled f.player
 
 module _ {g : Graph} {inside : List Bool} {x : Solver} {frames : List Frame} {f : Frame} (h : IsAtEnd g inside x frames f) where
   abbrev U : VertexSet
   U = members inside
 
   abbrev X : VertexSet
-  X = active_of x.subgame
+  X = active_of x.parts.subgame
 
   abbrev settled : SettledLists
-  settled = settled_of x.settled
+  settled = settled_of x.parts.settled
 
   abbrev set_aside : List ℕ
   set_aside = x.set_aside.items
 
   abbrev old : Plan
-  old = x.subgame.plan
+  old = x.parts.subgame.plan
 
   abbrev p : Player
   p = f.player
@@ -86,7 +123,7 @@ module _ {g : Graph} {inside : List Bool} {x : Solver} {frames : List Frame} {f 
   run : AreOpenLevels g U X settled set_aside (frames ++ f ∷ []) (winners_of old) (choices_of old)
   run = h.running.open_levels
 
-  begun : IsBegun g I L p (winners_of old) (choices_of old)
+  begun : IsBegun g I (level_at U settled set_aside f).tops L p (winners_of old) (choices_of old)
   begun = last_begun frames f run
 
   solved : IsSolvedInside g L (winners_of old) (choices_of old)
@@ -178,149 +215,20 @@ module _ {g : Graph} {inside : List Bool} {x : Solver} {frames : List Frame} {f 
         let a : 0 < length (since p ++ B) = some_length (since p ++ B) some_aside.0 (in_rest (since p) B some_aside.0 some_aside.1) in
         finished old settles (omega (arith, a))
 
-  -- The subgame is reopened: what was set aside and what the player won is active.
-  module _ (A : VertexSet) (active : (v : ℕ) → A v ≡ ((X v || listed B v) || listed (since p) v)) where
-    active_cases : (v : ℕ) → In A v → In (listed B) v ⊎ In (listed (since p)) v
-    active_cases v y = search (rules, or_cases, no_both, h.none)
+  module _ {z : Solver} (all : length (settled q) ≡ count_at f q) (c : Closes g x z frames f) where
+    close_finished : IsFinished g inside x frames f X (settled_of z.parts.settled) old
+    close_finished = settle_finished (settled_of z.parts.settled) all c.own c.other
 
-    active_aside : (v : ℕ) → In (listed B) v → In A v
-    active_aside v y = active v ∙ or_left (X v || listed B v) (listed (since p) v) (or_right (X v) (listed B v) y)
-
-    active_own : (v : ℕ) → In (listed (since p)) v → In A v
-    active_own v y = active v ∙ or_right (X v || listed B v) (listed (since p) v) y
-
-    active_inside : (v : ℕ) → In A v → In I v
-    active_inside v y = elim (active_cases v y) [ inl x ↦ aside_of v x | inr x ↦ inside_of p v x ]
-
-    pub reopened : (v : ℕ) → union A (listed (since q)) v ≡ I v
-    reopened v = search (rules, equal_from, or_cases, active_inside, inside_of, cases, own_or_other, or_left, active_own, or_right, active_aside)
-
-    -- what the opponent won is not active
-    pub reopened_apart : (v : ℕ) → In (listed (settled q)) v → A v ≡ false
-    reopened_apart v j = search (rules, false_from_ne_true, active_cases, no_both, in_drop, f.set_aside)
-
-    inside_parts : (v : ℕ) → In I v → In U v × (listed (prefix f settled q) v ≡ false)
-    inside_parts v i = (let c = part_of U (prefix f settled) (take f.set_aside set_aside) v i in (c.0, c.1 q))
-
-    -- an edge of the opponent's out of the subgame leads to what the player has
-    out_of_inside : (v w : ℕ) → In I v → owner_of g v ≡ q → HasEdge g v w → In U w → I w ≡ false → winners_of old w ≡ p
-    out_of_inside v w i o e u n =
-        waits_away g U (map (level_at U settled set_aside) frames) I (winners_of old) (choices_of old) (last_waits frames f run) v w i e u n
-        ∙ (ap opponent o ∙ twice p)
-
-    in_whole : (v : ℕ) → In (listed (settled q)) v → In U v
-    in_whole v i = run.listed_inside v (gone_settled settled set_aside q v i)
-
-    not_won : (v : ℕ) → winners_of old v ≡ p → winners_of old v ≡ q → ⊥
-    not_won v a b = not_both (winners_of old v) p a b
-
-    pub reopened_known : IsKnown g U q A old (settled q)
-    reopened_known = record {
-      inside = λ v i. (inside_parts v (active_inside v i)).0;
-      won = λ v i. won_from U A old q v (in_whole v i) (reopened_apart v i) (run.his q v i);
-      reached = λ v w i o e k. (let c = won_parts U A old q w k in elim (cases_Bool (I w)) [
-        | inr n ↦ absurd (not_won w (out_of_inside v w (active_inside v i) o e c.0 n) c.2)
-        | inl y ↦ elim (cases w y) [
-          | inl (r, x) ↦ in_drop (count_at f q) (settled q) w (subst (λ t. In (listed (since t)) w) (sym (his r w x) ∙ c.2) x)
-          | inr x ↦ absurd (no_both (active_aside w x) c.1)
-        ]
-      ]);
+    pub closed : IsSolverState g inside z z.frames.items
+    closed = record {
+      inside_length = h.running.inside_length;
+      whole = c.size ∙ h.running.whole;
+      sizes = rw c.subgame h.running.sizes;
+      subgame = rw c.subgame h.running.subgame;
+      order = rw (c.subgame, c.order) h.running.order;
+      placed = c.placed;
+      open_levels = rw (c.subgame, c.frames, c.set_aside) close_finished.open_levels;
     }
 
-    -- an edge of the opponent's vertex doesn't lead to what he won before
-    pub reopened_away : (v w : ℕ) → In A v → owner_of g v ≡ q → HasEdge g v w → In (listed (prefix f settled q)) w → ⊥
-    reopened_away v w i o e j = search (rules, cases_Bool, no_both, inside_parts, in_take, not_won, out_of_inside, active_inside, in_whole)
-
-    -- nothing that the player won leads to what the opponent won
-    pub reopened_rest : AttractsNoActive g q (union A (listed (settled q))) (listed (settled q)) (without A (listed B))
-    reopened_rest = record {
-      own = λ v w i o e. missed w (λ y. (let b = only (A v) (listed B v) i in elim (take_or_drop (count_at f q) (settled q) w y) [
-        | inl x ↦ reopened_away v w b.0 o e x
-        | inr x ↦ (let k = (solved p).closed v w (mine v b) o e (since_left frames f run q w x) in
-            not_won w (same_is (winners_of old w) p (and_parts (L w) (same_player (winners_of old w) p) k).1) (his q w x))
-      ]));
-      other = λ v i o. (let b = only (A v) (listed B v) i in
-          let c = (solved p).choices v (mine v b) (o ∙ twice p) in
-          let k : In A c.0 = active_own c.0 (sym (won_since frames f run h.none p c.0) ∙ c.3) in
-          (c.0, c.2, or_left (A c.0) (listed (settled q) c.0) k, missed c.0 (λ y. no_both k (reopened_apart c.0 y))));
-    }
-      where
-        missed : (w : ℕ) → (In (listed (settled q)) w → ⊥) → listed (settled q) w ≡ false
-        missed w n = false_from_ne_true (listed (settled q) w) n
-
-        mine : (v : ℕ) → (A v ≡ true) × (listed B v ≡ false) → In (won_inside L (winners_of old) p) v
-        mine v b = won_since frames f run h.none p v ∙ elim (active_cases v b.0) [ inl y ↦ absurd (no_both y b.1) | inr y ↦ y ]
-
-    -- What the opponent attracts to it is settled.
-    module _ {settled' : SettledLists} {C : VertexSet} {new : Plan} (t : Retakes g f A old settled settled' C new) where
-      grown_cut : HasTaken g q A old (prefix f settled q ++ since q) C new (settled' q)
-      grown_cut = subst (λ ys. HasTaken g q A old ys C new (settled' q)) (cut q) t.grown
-
-      abbrev lost : List ℕ
-      lost = since q ++ grown_cut.more
-
-      prefix_inactive : (v : ℕ) → In (listed (prefix f settled q)) v → A v ≡ false
-      prefix_inactive v i = reopened_apart v (in_take (count_at f q) (settled q) v i)
-
-      prefix_apart : Apart (prefix f settled q) (since q)
-      prefix_apart = take_apart (count_at f q) (settled q) (run.apart.settled_once q)
-
-      other : settled' q ≡ prefix f settled q ++ lost
-      other = list_behind (prefix f settled q) (since q) grown_cut prefix_inactive prefix_apart
-
-      grown : HasTaken g q A old (since q) C new lost
-      grown = grown_behind (prefix f settled q) (since q) grown_cut prefix_inactive prefix_apart reopened_away
-
-      done : AttractsNoActive g q (union A (listed (since q))) (listed lost) C
-      done = done_behind (prefix f settled q) (since q) grown_cut prefix_inactive prefix_apart
-          (subst (λ ys. AttractsNoActive g q (union A (listed ys)) (listed (settled' q)) C) (cut q) t.done)
-
-      lost_apart : (v : ℕ) → In (listed lost) v → C v ≡ false
-      lost_apart v i = t.apart v (subst (λ ys. In (listed ys) v) (sym other) (in_rest (prefix f settled q) lost v i))
-
-      since_apart : (v : ℕ) → In (listed (since q)) v → A v ≡ false
-      since_apart v i = reopened_apart v (in_drop (count_at f q) (settled q) v i)
-
-      gained : IsAttracted g q I (won_inside L (winners_of old) q) (listed lost) (choices_of new) (place lost)
-      gained =
-          subst (λ Z. IsAttracted g q I Z (listed lost) (choices_of new) (place lost)) (fun_ext (λ v. sym (won_since frames f run h.none q v)))
-          (subst (λ Z. IsAttracted g q Z (listed (since q)) (listed lost) (choices_of new) (place lost)) (fun_ext reopened) (grown_attracted grown done))
-
-      rest_is : (v : ℕ) → C v ≡ without I (listed lost) v
-      rest_is v = rest_active (C v) (listed lost v) (I v) (grown_union grown v ∙ reopened v) (lost_apart v)
-
-      lost_won : (v : ℕ) → In (listed lost) v → winners_of new v ≡ q
-      lost_won v i = elim (grown_cases grown v i) [
-        | inl y ↦ (grown.same v (since_apart v y)).0 ∙ his q v y
-        | inr y ↦ grown.his v y
-      ]
-
-      pub resume_subgame : IsSubgame g C
-      resume_subgame = IsSubgame-subst (λ v. sym (rest_is v))
-          (left_is_subgame begun.subgame gained)
-
-      pub resume_inside : (v : ℕ) → In C v → In I v
-      resume_inside v i = (only (I v) (listed lost v) (sym (rest_is v) ∙ i)).0
-
-      resumes : Finishes g p I C (prefix f settled) settled' [] lost (winners_of old) (winners_of new) (choices_of old) (choices_of new)
-      resumes = record {
-        own_is = t.own ∙ sym (append-nil (prefix f settled p));
-        other_is = other;
-        own_within = λ v i. absurd (cc i);
-        other_within = λ v i. sym (reopened v) ∙ grown_inside grown v i;
-        own_once = tt;
-        other_once = once_right (prefix f settled q) lost (subst Once other t.once);
-        apart = λ v i. absurd (cc i);
-        left = rest_is;
-        own_won = λ v i. absurd (cc i);
-        other_won = lost_won;
-        same = λ v n. grown.same v (false_from_ne_true (A v) (λ y. no_both (active_inside v y) n));
-        solved = IsSolvedTo-subst (λ v. sym (rest_is v))
-            (part_lost begun (listed lost) (winners_of new) (choices_of new) (place lost) solved gained
-            (λ v i. (grown.same v (since_apart v (sym (won_since frames f run h.none q v) ∙ i))).1) lost_won);
-      }
-
-      pub resume_finished : IsFinished g inside x frames f C settled' new
-      resume_finished =
-          let l : 0 < length (since q) = omega (arith, (stop_fits frames f run).0 q, t.some, length-drop (count_at f q) (settled q)) in
-          finished new resumes (omega (arith, l, length-append (since q) grown_cut.more))
+    pub closed_fewer : work (size inside) z z.frames.items < work (size inside) x (frames ++ f ∷ [])
+    closed_fewer = rw (c.frames, c.set_aside) close_finished.fewer

@@ -1,5 +1,5 @@
 -- The steps of the loop over shared lists: a subgame is begun, or the last one that waits is finished.
-use Rattle.pg_finders.proofs.Common.{◌≡◌, ℕ, ◌+◌, ◌<◌, ◌≤◌, Bool, true, false, ◌&&◌, ◌||◌, not, ◌⊎◌, inl, inr, List, [], ◌∷◌, ◌++◌, length, take, drop, map}
+use Rattle.pg_finders.proofs.Common.{◌≡◌, ℕ, ◌+◌, ◌-◌, ◌<◌, ◌≤◌, Bool, true, false, ◌&&◌, ◌||◌, not, ◌⊎◌, inl, inr, List, [], ◌∷◌, ◌++◌, length, take, drop, map}
 use Rattle.pg_finders.proofs.Common.{refl, sym, ◌∙◌, ap, subst, arith, length-append, rules, fun_ext, ◌==◌, eqb-true, or_cases, and_parts, and_from}
 use Rattle.pg_finders.proofs.Common.{false_from_ne_true, and-true, map-append, take-append-le, take_all, common_steps, Player, Even, Odd, opponent, Graph}
 use Rattle.pg_finders.proofs.Common.{VertexSet, In, members, no_vertices, Choices, same_is, is_same, Frame, Winners, IsSolvedInside, IsSolvedTo, IsBegun}
@@ -7,6 +7,7 @@ use Rattle.pg_finders.proofs.Common.{won_inside, Level, AreLevels, listed, Once,
 use Rattle.pg_finders.proofs.Common.{AreApart, AreOpenLevels, how_many_gone}
 use Rattle.std.proofs.Common.{length-take}
 use Rattle.std.proofs.Math.Bool.{or_assoc}
+use Rattle.std.proofs.Math.Seq.{take-append-add, drop-append_seam}
 use Rattle.pg_finders.proofs.Sets.{minus_both, no_both, equal_from, unless}
 use Rattle.pg_finders.proofs.recursion.ListsAsSets.{listed-append, prefix_or_rest, in_take, in_drop, take_or_drop, once_join, once_take, take_apart, apart_from}
 use Rattle.pg_finders.proofs.recursion.ListsAsSets.{once_fits}
@@ -56,10 +57,11 @@ pub record Begins (g : Graph) (U active active' : VertexSet) (settled : SettledL
   pub within : (v : ℕ) → In (listed added) v → In active v
   pub once : Once added
   pub left : (v : ℕ) → active' v ≡ (active v && not (listed added v))
-  pub begun : IsBegun g active active' f.player won' s'
+  pub begun : IsBegun g active (listed (take (f.tops - f.set_aside) added)) active' f.player won' s'
   pub same : Agree active won won' s s'
   pub counts : (p : Player) → count_at f p ≡ length (settled p)
   pub from : f.set_aside ≡ length set_aside
+  pub tops : (f.set_aside ≤ f.tops) × (f.tops ≤ f.upto)
   pub upto : f.upto ≡ length (set_aside ++ added)
 
 module _ {g : Graph} {U active active' : VertexSet} {settled : SettledLists} {set_aside added : List ℕ} {frames : List Frame} {f : Frame} {won won' : Winners}
@@ -77,7 +79,18 @@ module _ {g : Graph} {U active active' : VertexSet} {settled : SettledLists} {se
   prefix_now : prefix f settled ≡ settled
   prefix_now = fun_ext (λ p. take_all (count_at f p) (settled p) (let a = b.counts p in omega (arith, a)))
 
-  level_now : level_at U settled (set_aside ++ added) f ≡ record { inside = active; left = active'; player = f.player }
+  -- the tops are the first of those that are added
+  tops_now : drop f.set_aside (take f.tops (set_aside ++ added)) ≡ take (f.tops - f.set_aside) added
+  tops_now =
+      let e : length set_aside + (f.tops - f.set_aside) ≡ f.tops = omega (arith, b.from, b.tops.0) in
+      ap (drop f.set_aside) (ap (λ n. take n (set_aside ++ added)) (sym e) ∙ take-append-add set_aside added (f.tops - f.set_aside))
+      ∙ (ap (λ n. drop n (set_aside ++ take (f.tops - f.set_aside) added)) b.from
+      ∙ drop-append_seam set_aside (take (f.tops - f.set_aside) added))
+
+  abbrev Tops : VertexSet
+  Tops = listed (take (f.tops - f.set_aside) added)
+
+  level_now : level_at U settled (set_aside ++ added) f ≡ record { inside = active; tops = Tops; left = active'; player = f.player }
   level_now =
       let begins : take f.set_aside (set_aside ++ added) ≡ set_aside =
       take-append-le f.set_aside set_aside added (omega (arith, b.from)) ∙ take_all f.set_aside set_aside (omega (arith, b.from)) in
@@ -86,24 +99,27 @@ module _ {g : Graph} {U active active' : VertexSet} {settled : SettledLists} {se
       ap (λ t. part U t (take f.set_aside (set_aside ++ added))) prefix_now ∙ (ap (part U settled) begins ∙ fun_ext (λ v. sym (b.open_levels.active_is v))) in
       let in_left : part U (prefix f settled) (take f.upto (set_aside ++ added)) ≡ active' =
       ap (λ t. part U t (take f.upto (set_aside ++ added))) prefix_now ∙ (ap (part U settled) whole ∙ fun_ext (λ v. sym (active_now v))) in
-      ap (λ X. record { inside = X; left = part U (prefix f settled) (take f.upto (set_aside ++ added)); player = f.player }) in_all
-      ∙ ap (λ X. record { inside = active; left = X; player = f.player }) in_left
+      ap (λ X. record {
+        inside = X;
+        tops = listed (drop f.set_aside (take f.tops (set_aside ++ added)));
+        left = part U (prefix f settled) (take f.upto (set_aside ++ added));
+        player = f.player;
+      }) in_all
+      ∙ (ap (λ xs. record { inside = active; tops = listed xs; left = part U (prefix f settled) (take f.upto (set_aside ++ added)); player = f.player }) tops_now
+      ∙ ap (λ X. record { inside = active; tops = Tops; left = X; player = f.player }) in_left)
 
   pub stops_now : map (level_at U settled (set_aside ++ added)) frames ≡ map (level_at U settled set_aside) frames
   stops_now = search (rules, levels_same, b.open_levels.linked, take-append-le)
 
-  pub inside_now : (level_at U settled (set_aside ++ added) f).inside ≡ active
-  inside_now = ap (λ (l : Level). l.inside) level_now
-
   levels_now : map (level_at U settled (set_aside ++ added)) (frames ++ f ∷ [])
-      ≡ map (level_at U settled set_aside) frames ++ record { inside = active; left = active'; player = f.player } ∷ []
+      ≡ map (level_at U settled set_aside) frames ++ record { inside = active; tops = Tops; left = active'; player = f.player } ∷ []
   levels_now = search (rules, map-append, stops_now, level_now)
 
   pub open_levels_begin : AreOpenLevels g U active' settled (set_aside ++ added) (frames ++ f ∷ []) won' s'
   open_levels_begin = record {
     linked = subst (λ n. Linked (λ p. 0) (λ p. length (settled p)) 0 (frames ++ f ∷ []) n) b.upto
         (linked_push (λ p. 0) (λ p. length (settled p)) 0 frames (length set_aside) f b.open_levels.linked b.from
-        (omega (arith, b.from, b.upto, length-append set_aside added)) b.counts);
+        b.tops b.counts);
     apart = record {
       settled_once = b.open_levels.apart.settled_once;
       aside_once = once_join set_aside added b.open_levels.apart.aside_once b.once (apart_from set_aside added (λ v i j. no_both i (out_of_lists v (b.within
@@ -124,7 +140,7 @@ module _ {g : Graph} {U active active' : VertexSet} {settled : SettledLists} {se
     active_is = active_now;
     his = λ p v i. (b.same v (false_from_ne_true (active v) (λ y. no_both i ((out_of_lists v y).1 p)))).0 ∙ b.open_levels.his p v i;
     waits = subst (λ levels. AreLevels g U levels active' won' s') (sym levels_now)
-        (waits_push g U (map (level_at U settled set_aside) frames) (record { inside = active; left = active'; player = f.player }) active' won' s'
+        (waits_push g U (map (level_at U settled set_aside) frames) (record { inside = active; tops = Tops; left = active'; player = f.player }) active' won' s'
         (waits_on g U (map (level_at U settled set_aside) frames) active active won won' s s' b.open_levels.waits b.same (solved_none)) b.begun (solved_none));
   }
 
@@ -150,22 +166,19 @@ module _ {g : Graph} {U active : VertexSet} {settled : SettledLists} {set_aside 
   abbrev last : Level
   last = level_at U settled set_aside f
 
-  links : Linked (λ p. 0) (count_at f) 0 frames f.set_aside × (f.set_aside ≤ f.upto) × ((p : Player)
+  links : Linked (λ p. 0) (count_at f) 0 frames f.set_aside × ((f.set_aside ≤ f.tops) × (f.tops ≤ f.upto)) × ((p : Player)
       → count_at f p ≤ length (settled p)) × (f.upto ≡ length set_aside)
   links = linked_pop (λ p. 0) (λ p. length (settled p)) 0 frames (length set_aside) f h.linked
 
   pub stop_fits : ((p : Player) → count_at f p ≤ length (settled p)) × (f.set_aside ≤ length set_aside)
-  stop_fits = (links.2, omega (arith, links.1, links.3))
+  stop_fits = (links.2, omega (arith, links.1.0, links.1.1, links.3))
 
-  popped : AreLevels g U (map (level_at U settled set_aside) frames) last.inside won s × IsBegun g last.inside last.left f.player won s
+  popped : AreLevels g U (map (level_at U settled set_aside) frames) last.inside won s × IsBegun g last.inside last.tops last.left f.player won s
       × IsSolvedTo g last.left active won s
   popped = waits_pop g U (map (level_at U settled set_aside) frames) last active won s
       (subst (λ levels. AreLevels g U levels active won s) (map-append (level_at U settled set_aside) frames (f ∷ [])) h.waits)
 
-  pub last_waits : AreLevels g U (map (level_at U settled set_aside) frames) last.inside won s
-  last_waits = popped.0
-
-  pub last_begun : IsBegun g last.inside last.left f.player won s
+  pub last_begun : IsBegun g last.inside last.tops last.left f.player won s
   last_begun = popped.1
 
   abbrev since : SettledLists
@@ -270,7 +283,7 @@ module _ {g : Graph} {U active : VertexSet} {settled : SettledLists} {set_aside 
     counts p = (let a = links.2 p in omega (arith, length-take (count_at f p) (settled p), a))
 
     length_aside : length A ≡ f.set_aside
-    length_aside = omega (arith, length-take f.set_aside set_aside, links.1, links.3)
+    length_aside = omega (arith, length-take f.set_aside set_aside, links.1.0, links.1.1, links.3)
 
     pub stops_kept : map (level_at U settled' A) frames ≡ map (level_at U settled set_aside) frames
     stops_kept = levels_same U settled set_aside settled' A (λ p. 0) (count_at f) 0 f.set_aside frames links.0

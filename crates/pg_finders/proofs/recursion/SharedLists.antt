@@ -1,7 +1,7 @@
 -- Lists that are shared: what stops in a row say of them, and which levels stay the same.
 use Rattle.pg_finders.proofs.Common.{◌≡◌, ℕ, ◌≤◌, false, ◌||◌, ◌⊎◌, List, [], ◌∷◌, ◌++◌, take, map, refl, sym, ◌∙◌, ap, arith, rules, or_cases}
 use Rattle.pg_finders.proofs.Common.{or_left, or_right, false_from_ne_true, Player, Even, Odd, opponent, same_player, if◌then◌else◌, VertexSet, In, Frame}
-use Rattle.pg_finders.proofs.Common.{listed, Apart, SettledLists, gone, part, count_at, prefix, level_at, Linked, fun_ext}
+use Rattle.pg_finders.proofs.Common.{listed, Apart, SettledLists, gone, part, count_at, prefix, level_at, Linked, fun_ext, drop}
 use Rattle.std.proofs.Math.Bool.{or_comm}
 use Rattle.pg_finders.proofs.Sets.{no_both, minus, only}
 use Rattle.pg_finders.proofs.recursion.ListsAsSets.{apart_other}
@@ -50,7 +50,8 @@ in_part U settled set_aside v u f a = minus u (gone_none settled set_aside v f a
 
 linked_le : (i n : Player → ℕ) (first : ℕ) (frames : List Frame) (last : ℕ) → Linked i n first frames last → ((p : Player) → i p ≤ n p) × (first ≤ last)
 linked_le i n first [] last l = (l.0, omega (arith, l.1))
-linked_le i n first (x ∷ xs) last l = search (rules, linked_le (count_at x) n x.upto xs last l.3, x.upto)
+linked_le i n first (x ∷ xs) last l = (let h = linked_le (count_at x) n x.upto xs last l.3 in
+    (λ p. (let a = l.0 p in let b = h.0 p in omega (arith, a, b)), omega (arith, l.1, l.2.0, l.2.1, h.1)))
 
 pub linked_more : (i n m : Player → ℕ) (first : ℕ) (frames : List Frame) (last : ℕ) → ((p : Player) → n p ≤ m p) → Linked i n first frames last
     → Linked i m first frames last
@@ -58,12 +59,12 @@ linked_more i n m first [] last e l = (λ p. (let a = e p in let b = l.0 p in om
 linked_more i n m first (x ∷ xs) last e l = (l.0, l.1, l.2, linked_more (count_at x) n m x.upto xs last e l.3)
 
 pub linked_push : (i n : Player → ℕ) (first : ℕ) (frames : List Frame) (last : ℕ) (f : Frame) → Linked i n first frames last → f.set_aside ≡ last
-    → f.set_aside ≤ f.upto → ((p : Player) → count_at f p ≡ n p) → Linked i n first (frames ++ f ∷ []) f.upto
+    → (f.set_aside ≤ f.tops) × (f.tops ≤ f.upto) → ((p : Player) → count_at f p ≡ n p) → Linked i n first (frames ++ f ∷ []) f.upto
 linked_push i n first [] last f l a b c = search (rules)
 linked_push i n first (x ∷ xs) last f l a b c = (l.0, l.1, l.2, linked_push (count_at x) n x.upto xs last f l.3 a b c)
 
 pub linked_pop : (i n : Player → ℕ) (first : ℕ) (frames : List Frame) (last : ℕ) (f : Frame) → Linked i n first (frames ++ f ∷ []) last
-    → Linked i (count_at f) first frames f.set_aside × (f.set_aside ≤ f.upto) × ((p : Player) → count_at f p ≤ n p) × (f.upto ≡ last)
+    → Linked i (count_at f) first frames f.set_aside × ((f.set_aside ≤ f.tops) × (f.tops ≤ f.upto)) × ((p : Player) → count_at f p ≤ n p) × (f.upto ≡ last)
 linked_pop i n first [] last f l = ((l.0, sym l.1), l.2, l.3.0, l.3.1)
 linked_pop i n first (x ∷ xs) last f l = let h = linked_pop (count_at x) n x.upto xs last f l.3 in ((l.0, l.1, l.2, h.0), h.1, h.2, h.3)
 
@@ -76,11 +77,33 @@ levels_same U settled set_aside settled' set_aside' i n first last [] l f h = re
 levels_same U settled set_aside settled' set_aside' i n first last (x ∷ xs) l f h =
     let le = linked_le (count_at x) n x.upto xs last l.3 in
     let a : prefix x settled' ≡ prefix x settled = fun_ext (λ p. f p (count_at x p) (le.0 p)) in
-    let b = h x.set_aside (omega (arith, l.2, le.1)) in
+    let b = h x.set_aside (omega (arith, l.2.0, l.2.1, le.1)) in
+    let t : drop x.set_aside (take x.tops set_aside') ≡ drop x.set_aside (take x.tops set_aside) =
+    ap (drop x.set_aside) (h x.tops (omega (arith, l.2.1, le.1))) in
     let here : level_at U settled' set_aside' x ≡ level_at U settled set_aside x =
-    ap (λ s. record { inside = part U s (take x.set_aside set_aside'); left = part U s (take x.upto set_aside'); player = x.player }) a
-    ∙ (ap (λ xs. record { inside = part U (prefix x settled) xs; left = part U (prefix x settled) (take x.upto set_aside'); player = x.player }) b
-    ∙ ap (λ xs. record { inside = part U (prefix x settled) (take x.set_aside set_aside); left = part U (prefix x settled) xs; player = x.player })
-    (h x.upto le.1)) in
+    ap (λ s. record {
+      inside = part U s (take x.set_aside set_aside');
+      tops = listed (drop x.set_aside (take x.tops set_aside'));
+      left = part U s (take x.upto set_aside');
+      player = x.player;
+    }) a
+    ∙ (ap (λ xs. record {
+      inside = part U (prefix x settled) xs;
+      tops = listed (drop x.set_aside (take x.tops set_aside'));
+      left = part U (prefix x settled) (take x.upto set_aside');
+      player = x.player;
+    }) b
+    ∙ (ap (λ xs. record {
+      inside = part U (prefix x settled) (take x.set_aside set_aside);
+      tops = listed xs;
+      left = part U (prefix x settled) (take x.upto set_aside');
+      player = x.player;
+    }) t
+    ∙ ap (λ xs. record {
+      inside = part U (prefix x settled) (take x.set_aside set_aside);
+      tops = listed (drop x.set_aside (take x.tops set_aside));
+      left = part U (prefix x settled) xs;
+      player = x.player;
+    }) (h x.upto le.1))) in
     ap (λ y. y ∷ map (level_at U settled' set_aside') xs) here
     ∙ ap (λ ys. level_at U settled set_aside x ∷ ys) (levels_same U settled set_aside settled' set_aside' (count_at x) n x.upto last xs l.3 f h)

@@ -1,18 +1,7 @@
--- What a step of the solver owes besides the levels: the places in the order by priority, and the steps that are left.
-use Rattle.pg_finders.proofs.Common.{◌≡◌, ℕ, ◌+◌, ◌-◌, ◌<◌, ◌≤◌, List, [], ◌∷◌, ◌++◌, length, map, refl, arith, rules, Frame, Level, steps, steps_after}
-use Rattle.pg_finders.proofs.Common.{AllStand, AllPlaced, steps_left}
+-- What a step of the solver owes besides the levels: the steps that are left.
+use Rattle.pg_finders.proofs.Common.{◌≡◌, ℕ, ◌+◌, ◌-◌, ◌<◌, ◌≤◌, List, [], ◌∷◌, ◌++◌, refl, arith, rules, Frame, steps, steps_after}
+use Rattle.pg_finders.proofs.Common.{steps_left}
 use Rattle.pg_finders.proofs.recursion.WaitingLevels.{steps_grow, steps_begin, steps_finish}
-
-pub placed_push : (vertices : List ℕ) (level : Frame → Level) (frames : List Frame) (f : Frame) → AllPlaced vertices (map level frames) frames
-    → AllStand vertices (level f).inside f.place → f.place ≤ length vertices → AllPlaced vertices (map level (frames ++ f ∷ [])) (frames ++ f ∷ [])
-placed_push vertices level [] f h a l = (a, l, tt)
-placed_push vertices level (x ∷ xs) f h a l = (h.0, h.1, placed_push vertices level xs f h.2 a l)
-
-pub placed_pop : (vertices : List ℕ) (level : Frame → Level) (frames : List Frame) (f : Frame)
-    → AllPlaced vertices (map level (frames ++ f ∷ [])) (frames ++ f ∷ [])
-    → AllPlaced vertices (map level frames) frames × AllStand vertices (level f).inside f.place × (f.place ≤ length vertices)
-placed_pop vertices level [] f h = (tt, h.0, h.1)
-placed_pop vertices level (x ∷ xs) f h = (let k = placed_pop vertices level xs f h.2 in ((h.0, h.1, k.0), k.1, k.2))
 
 left_push : (n : ℕ) (frames : List Frame) (f : Frame) → steps_left n (frames ++ f ∷ []) ≡ steps_left n frames + steps_after (n - (f.even + f.odd + f.set_aside))
 left_push n [] f = omega arith

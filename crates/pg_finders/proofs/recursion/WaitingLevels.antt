@@ -30,20 +30,20 @@ waits_on g U (f ∷ fs) R Q won won' s s' h same more =
 
 -- the part is begun
 pub waits_push : (g : Graph) (U : VertexSet) (fs : List Level) (f : Level) (R : VertexSet) (won : Winners) (s : Choices) → AreLevels g U fs f.inside won s
-    → IsBegun g f.inside f.left f.player won s → IsSolvedTo g f.left R won s → AreLevels g U (fs ++ f ∷ []) R won s
+    → IsBegun g f.inside f.tops f.left f.player won s → IsSolvedTo g f.left R won s → AreLevels g U (fs ++ f ∷ []) R won s
 waits_push g U [] f R won s h b more = (h, b, more)
 waits_push g U (x ∷ fs) f R won s h b more = (h.0, h.1, waits_push g x.left fs f R won s h.2 b more)
 
 -- the last level is taken away
 pub waits_pop : (g : Graph) (U : VertexSet) (fs : List Level) (f : Level) (R : VertexSet) (won : Winners) (s : Choices) → AreLevels g U (fs ++ f ∷ []) R won s
-    → AreLevels g U fs f.inside won s × IsBegun g f.inside f.left f.player won s × IsSolvedTo g f.left R won s
+    → AreLevels g U fs f.inside won s × IsBegun g f.inside f.tops f.left f.player won s × IsSolvedTo g f.left R won s
 waits_pop g U [] f R won s h = h
 waits_pop g U (x ∷ fs) f R won s h = let k = waits_pop g x.left fs f R won s h.2 in ((h.0, h.1, k.0), k.1, k.2)
 
 -- from what a begun subgame leaves, edges into what is set aside are the opponent's
-begun_away : {g : Graph} {U L : VertexSet} {p : Player} {won : Winners} {s : Choices} → IsBegun g U L p won s → (v w : ℕ) → In L v → HasEdge g v w
+begun_away : {g : Graph} {U T L : VertexSet} {p : Player} {won : Winners} {s : Choices} → IsBegun g U T L p won s → (v w : ℕ) → In L v → HasEdge g v w
     → In (without U L) w → won w ≡ opponent (owner_of g v)
-begun_away {g} {U} {L} {p} b v w l e a = elim (own_or_other (owner_of g v) p) [
+begun_away {g} {U} {T} {L} {p} b v w l e a = elim (own_or_other (owner_of g v) p) [
   | inl o ↦ absurd (no_both l (only (U v) (L v) (b.attracted.own v w (b.within v l) o e a)).1)
   | inr o ↦ b.his w a ∙ (sym (twice p) ∙ ap opponent (sym o))
 ]

@@ -1,19 +1,19 @@
 //! A subgame during the recursion: its active vertices, and their unfinished plan. A player attracts in place: a vertex
 //! that he takes is no longer active, and is listed after those that it leads to (Zielonka 1998). The first half of a step
-//! removes what the greatest vertices attract for their player: those of one parity above every vertex of the other parity.
+//! removes what the vertices of the greatest priority attract for its player.
 //!
 //! For each vertex a cursor keeps the place among its successors where the last search for an active one ended. If
 //! successors become inactive one by one, the searches pass over them once.
 
-ghost use Rattle.std.specs.Prelude.{◌≡◌, ◌<◌, ℕ, length, All, IfOk, IfSome, IsNone, OnOk, false, IsTrue, IsFalse, ◌≢◌, Some};
+ghost use Rattle.std.specs.Prelude.{◌≡◌, ◌<◌, ℕ, [], length, take, All, IfOk, OnOk, ◌≢◌, Some};
 ghost use Rattle.pg_game.specs.Graph.{HasEdge};
-ghost use Rattle.pg_game.specs.VertexSet.{In, Within, members, union};
+ghost use Rattle.pg_game.specs.Player.{of_parity};
+ghost use Rattle.pg_game.specs.VertexSet.{In, Within, all_vertices, members, union};
 ghost use Rattle.pg_game.specs.private.VertexSet.{without};
 ghost use Rattle.pg_game.specs.Subgame.{IsSubgame};
 ghost use Rattle.pg_finders.specs.private.recursion.Listed.{listed};
-ghost use Rattle.pg_finders.specs.private.recursion.TakenVertices.{active_of, won_of, HasSizes, IsReady, IsKnown, HasTaken, IsTested, AttractsNoActive};
-ghost use Rattle.pg_finders.specs.private.recursion.TakenVertices.{AttractsAtMost};
-ghost use Rattle.pg_finders.specs.Part.{IsOut};
+ghost use Rattle.pg_dominion.specs.AttractorState.{AttractsNoFurther};
+ghost use Rattle.pg_finders.specs.private.recursion.TakenVertices.{active_of, HasSizes, IsReady, HasTaken, AttractsNoActive};
 ghost use Rattle.pg_finders.specs.private.recursion.Order.{AreGreatest};
 ghost use Rattle.pg_finders.specs.private.recursion.Plans.{winners_of, choices_of, IsGiven, SameOutside, HasSize, SameAt};
 ghost use Rattle.pg_finders.specs.private.Solved.{IsBegun};
@@ -55,7 +55,8 @@ impl Subgame {
         list: &mut Vec<u32>,
     ) -> Result<(), Memory>
         requires ready { IsReady (length game.now) self.old list.old.items }
-        requires subgame { IsSubgame game.now (union (active_of self.old) (listed list.old.items)) }
+        requires below { Within (union (active_of self.old) (listed list.old.items)) (all_vertices game.now) }
+        requires open { AttractsNoFurther game.now player (union (active_of self.old) (listed list.old.items)) (listed []) (listed list.old.items) }
         ensures ready { OnOk result (IsReady (length game.now) self.new list.new.items) }
         ensures grown { OnOk result (HasTaken game.now player (active_of self.old) self.old.plan list.old.items
             (active_of self.new) self.new.plan list.new.items) }
@@ -65,118 +66,15 @@ impl Subgame {
         attract_from(self, game, player, list, 0)
     }
 
-    /// Takes all that the player attracts to the listed vertices, which he won. Of the active vertices only the given
-    /// ones may lead to them.
-    pub fn attract_again(
-        &mut self,
-        view: &View,
-        player: Player,
-        list: &mut Vec<u32>,
-        vertices: &[u32],
-    ) -> Result<(), Memory>
-        requires ready { IsReady (length view.now.game.now) self.old list.old.items }
-        requires known { IsKnown view.now.game.now (members view.now.mask.now) player (active_of self.old) self.old.plan list.old.items }
-        requires below { All (λ v. v < length view.now.game.now) vertices.now }
-        requires at_most { AttractsAtMost view.now.game.now player (active_of self.old) list.old.items vertices.now }
-        ensures ready { OnOk result (IsReady (length view.now.game.now) self.new list.new.items) }
-        ensures grown { OnOk result (HasTaken view.now.game.now player (active_of self.old) self.old.plan list.old.items
-            (active_of self.new) self.new.plan list.new.items) }
-        ensures done { OnOk result (AttractsNoActive view.now.game.now player (union (active_of self.old) (listed list.old.items)) (listed list.new.items)
-            (active_of self.new)) }
-    {
-        let from = list.len();
-        self.retake_all(view, player, list, vertices)?;
-        attract_from(self, view.game, player, list, from)
-    }
-
-    /// Takes the vertices of these that the player attracts at once.
-    fn retake_all(
-        &mut self,
-        view: &View,
-        player: Player,
-        list: &mut Vec<u32>,
-        vertices: &[u32],
-    ) -> Result<(), Memory>
-        requires ready { IsReady (length view.now.game.now) self.old list.old.items }
-        requires known { IsKnown view.now.game.now (members view.now.mask.now) player (active_of self.old) self.old.plan list.old.items }
-        requires below { All (λ v. v < length view.now.game.now) vertices.now }
-        ensures ready { OnOk result (IsReady (length view.now.game.now) self.new list.new.items) }
-        ensures grown { OnOk result (HasTaken view.now.game.now player (active_of self.old) self.old.plan list.old.items
-            (active_of self.new) self.new.plan list.new.items) }
-        ensures tested { OnOk result ((v : ℕ) → In (listed vertices.now) v
-            → IsTested view.now.game.now player (listed list.old.items) (active_of self.old) (active_of self.new) v) }
-    {
-        for v in vertices {
-            self.retake(view, player, list, *v)?;
-        }
-        Ok(())
-    }
-
-    /// Takes a vertex that is active again for the player: one of his that leads to what he won, or one of the
-    /// opponent's that leads to no active vertex.
-    fn retake(
-        &mut self,
-        view: &View,
-        player: Player,
-        list: &mut Vec<u32>,
-        v: u32,
-    ) -> Result<(), Memory>
-        requires ready { IsReady (length view.now.game.now) self.old list.old.items }
-        requires known { IsKnown view.now.game.now (members view.now.mask.now) player (active_of self.old) self.old.plan list.old.items }
-        requires vertex { v < length view.now.game.now }
-        ensures ready { OnOk result (IsReady (length view.now.game.now) self.new list.new.items) }
-        ensures grown { OnOk result (HasTaken view.now.game.now player (active_of self.old) self.old.plan list.old.items
-            (active_of self.new) self.new.plan list.new.items) }
-        ensures tested { OnOk result (IsTested view.now.game.now player (listed list.old.items) (active_of self.old) (active_of self.new) v) }
-    {
-        if !self.active.has(v) {
-            return Ok(());
-        }
-        if view.game.owner(v) == player {
-            return match self.won_successor(view, player, v) {
-                Some(w) => self.take(view.game, player, v, Some(w), list),
-                None => Ok(()),
-            };
-        }
-        if self.cursors.find_successor(view.game, &self.active, v) {
-            return Ok(());
-        }
-        self.take(view.game, player, v, None, list)
-    }
-
-    /// A successor of the vertex that the player won inside.
-    fn won_successor(&self, view: &View, player: Player, v: u32) -> Option<u32>
-        requires sizes { HasSizes (length view.now.game.now) self.now }
-        requires vertex { v < length view.now.game.now }
-        ensures found { IfSome result (λ w. HasEdge view.now.game.now v w
-            × In (won_of (members view.now.mask.now) (active_of self.now) self.now.plan player) w) }
-        ensures none { IsNone result → IsOut view.now.game.now (won_of (members view.now.mask.now) (active_of self.now) self.now.plan player) v }
-    {
-        for w in view.game.successors(v) {
-            if self.has_won(view, player, *w) {
-                return Some(*w);
-            }
-        }
-        None
-    }
-
-    /// Whether the player won the vertex inside: it is planned as his and not active.
-    fn has_won(&self, view: &View, player: Player, v: u32) -> bool
-        requires sizes { HasSizes (length view.now.game.now) self.now }
-        requires vertex { v < length view.now.game.now }
-        ensures { result ≡ won_of (members view.now.mask.now) (active_of self.now) self.now.plan player v }
-    {
-        view.mask.has(v) && !self.active.has(v) && self.plan.winner(v) == player
-    }
-
     /// Removes the greatest active vertices, which are listed, and what they attract for their player, which is listed too.
     pub fn begin(&mut self, game: &Game, player: Player, list: &mut Vec<u32>) -> Result<(), Memory>
         requires sizes { HasSizes (length game.now) self.old }
         requires subgame { IsSubgame game.now (active_of self.old) }
-        requires greatest { AreGreatest game.now (active_of self.old) player list.old.items }
+        requires greatest { (top : ℕ) × (of_parity top ≡ player) × AreGreatest game.now (active_of self.old) top list.old.items }
         ensures ready { OnOk result (IsReady (length game.now) self.new list.new.items) }
-        ensures begun { OnOk result (IsBegun game.now (active_of self.old) (active_of self.new) player (winners_of self.new.plan)
-            (choices_of self.new.plan)) }
+        ensures begun { OnOk result (IsBegun game.now (active_of self.old) (listed list.old.items) (active_of self.new) player
+            (winners_of self.new.plan) (choices_of self.new.plan)) }
+        ensures tops { OnOk result (take (length list.old.items) list.new.items ≡ list.old.items) }
         ensures listed { OnOk result ((v : ℕ) → listed list.new.items v ≡ without (active_of self.old) (active_of self.new) v) }
         ensures fewer { OnOk result (Within (active_of self.new) (without (active_of self.old) (listed list.old.items))) }
         ensures same { OnOk result (SameOutside (active_of self.old) self.old.plan self.new.plan) }
@@ -322,7 +220,7 @@ impl Plan {
 }
 
 /// Removes the listed vertices from the mask.
-fn remove_all(mask: &mut Mask, list: &[u32])
+pub fn remove_all(mask: &mut Mask, list: &[u32])
     requires { All (λ v. v < length mask.old) list.now }
     ensures length { length mask.new ≡ length mask.old }
     ensures has { (v : ℕ) → members mask.new v ≡ without (members mask.old) (listed list.now) v }

@@ -4,7 +4,10 @@ use Rattle.pg_workers.proofs.Common.{AreOfCaller, [], ◌∷◌, drop}
 use Rattle.pg_workers.proofs.Common.{rules, ◌≡◌, ℕ, ◌+◌, List, length, sum, take, sym, ap, ◌∙◌, subst, arith, length-append, take-append_seam, Graph}
 use Rattle.pg_workers.proofs.Common.{drop-append_seam, IsExactSolution, KnownRows, Journal, state_of, IsLawful, number_settled, IsFull, AreStateRows, BoardRecord}
 use Rattle.pg_workers.proofs.Common.{ReportRow, AddsUp, IsInOrder, IsReport, settled_in, IsLater, HasSettled, IsOutcome}
+use Rattle.pg_board.proofs.OwnEntries.{continued}
+use Rattle.pg_workers.specs.KnownRegions.{KeepsKnown}
 use Rattle.pg_workers.specs.declared.solve.Outcome.{Outcome}
+use Rattle.pg_workers.proofs.KeptState.{keeps_in_rows}
 
 pub adds_up : (old new : BoardRecord) (report : List ReportRow) (known : ℕ) → IsLater (Even ∷ Odd ∷ []) old new → settled_in report + known ≡ number_settled old.journal
     → AddsUp known new.journal report
@@ -30,6 +33,7 @@ pub record IsSettledRun (old new : BoardRecord) (known : KnownRows) (total worke
   pub state : AreStateRows new.graph (state_of new.journal) o.solution.rows
   pub exact : IsExactSolution new.graph o.solution.rows
   pub settled : HasSettled old.graph known o.report.items old.journal
+  pub kept : KeepsKnown old.graph known (state_of old.journal)
   pub order : IsInOrder total o.report.items
   pub rows : IsReport workers o.report.items
 
@@ -42,6 +46,7 @@ is_outcome old new known total workers o r = record {
       subst (λ (j : Journal). IsFull old.graph (state_of j)) (sym r.entries) (subst (λ (g : Graph). IsFull g (state_of new.journal)) r.later.graph r.full);
   state = search (rules, r.state, r.entries, r.later.graph);
   exact = subst (λ (g : Graph). IsExactSolution g o.solution.rows) r.later.graph r.exact;
+  kept = λ p v i. keeps_in_rows old new o.solution.rows (continued r.later) r.lawful r.state v _ (r.kept p v i);
   report = r.order;
   rows = r.rows;
   adds_up = (

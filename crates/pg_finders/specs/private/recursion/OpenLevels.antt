@@ -1,5 +1,5 @@
 -- The waiting subgames, in lists that they share: the vertices set aside, and those settled for each player (private).
-use Rattle.std.specs.Prelude.{ℕ, ◌≡◌, ◌≤◌, ◌&&◌, ◌||◌, not, List, [], ◌∷◌, length, take, map}
+use Rattle.std.specs.Prelude.{ℕ, ◌≡◌, ◌≤◌, ◌&&◌, ◌||◌, not, List, [], ◌∷◌, length, take, drop, map}
 use Rattle.pg_game.specs.declared.player.Player.{Player}
 use Rattle.pg_game.specs.declared.player.Player.TheVariants.{Even, Odd}
 use Rattle.pg_game.specs.Graph.{Graph}
@@ -31,6 +31,7 @@ prefix f settled p = take (count_at f p) (settled p)
 abbrev pub level_at : VertexSet → SettledLists → List ℕ → Frame → Level
 level_at U settled set_aside f = record {
   inside = part U (prefix f settled) (take f.set_aside set_aside);
+  tops = listed (drop f.set_aside (take f.tops set_aside));
   left = part U (prefix f settled) (take f.upto set_aside);
   player = f.player;
 }
@@ -38,7 +39,7 @@ level_at U settled set_aside f = record {
 -- the attractors follow one another from the first place to the last, and the numbers settled do not fall, from i to n
 abbrev pub Linked : (Player → ℕ) → (Player → ℕ) → ℕ → List Frame → ℕ → Type 0
 Linked i n first [] last = ((p : Player) → i p ≤ n p) × (first ≡ last)
-Linked i n first (f ∷ fs) last = ((p : Player) → i p ≤ count_at f p) × (f.set_aside ≡ first) × (f.set_aside ≤ f.upto) × Linked (count_at f) n f.upto fs last
+Linked i n first (f ∷ fs) last = ((p : Player) → i p ≤ count_at f p) × (f.set_aside ≡ first) × ((f.set_aside ≤ f.tops) × (f.tops ≤ f.upto)) × Linked (count_at f) n f.upto fs last
 
 -- no vertex is listed twice
 pub record AreApart (settled : SettledLists) (set_aside : List ℕ) : Type 0 where

@@ -1,14 +1,11 @@
 -- The settled vertices, as a list for each player (private).
-use Rattle.std.specs.Prelude.{ℕ, List}
-use Rattle.std.specs.Borrow.{Lends, MutBor, Fml, u32}
-use Rattle.std.specs.Global.{Vec}
-use Rattle.std.specs.contracts.alloc.Global as global
-use Rattle.std.specs.contracts.impls.GlobalAllocator.TheImpl.{ghosts}
-use Rattle.std.specs.contracts.vec.Vec as vec
+use Rattle.std.specs.Prelude.{ℕ, ◌≡◌, ◌&&◌, ◌==◌, ◌-◌, not, List, length, take, drop}
 use Rattle.pg_game.specs.declared.player.Player.{Player}
 use Rattle.pg_game.specs.declared.player.Player.TheVariants.{Even, Odd}
-use Rattle.pg_finders.specs.declared.recursion.Settled.{Settled}
-use Rattle.pg_finders.specs.contracts.recursion.Settled.{the_row}
+use Rattle.pg_game.specs.VertexSet.{In}
+use Rattle.pg_finders.specs.declared.recursion.settled.Settled.{Settled}
+use Rattle.pg_finders.specs.private.recursion.Listed.{listed}
+use Rattle.pg_finders.specs.private.recursion.Places.{ArePlaced}
 
 -- a list of vertices for each player
 abbrev pub SettledLists : Type 0
@@ -18,11 +15,12 @@ abbrev pub settled_of : Settled → SettledLists
 settled_of x Even = x.even.items
 settled_of x Odd = x.odd.items
 
--- the lists with another one for the player
-abbrev pub with_list : Settled → Player → Vec ℕ → Settled
-with_list x Even list = record x { even = list }
-with_list x Odd list = record x { odd = list }
+-- the vertices are below n, and the table has their places
+abbrev pub IsPlaced : ℕ → Settled → Type 0
+IsPlaced n x = ArePlaced n x.places.items (settled_of x)
 
--- the player's list is in the end what is left of it behind r, and the opponent's is as it was
-abbrev pub LendsList : MutBor Settled → Player → MutBor (Vec ℕ) → Fml
-LendsList x p r = Lends the_row (vec.the_row u32 global.the_row ghosts) x r (with_list x.now p)
+-- the list is without the vertex: what stands before a place from which on it is listed is as it was, and from there on only the vertex is gone
+pub record IsWithout (v : ℕ) (old new : List ℕ) : Type 0 where
+  pub len : length new ≡ length old - 1
+  pub before : (k : ℕ) → In (listed (drop k old)) v → take k new ≡ take k old
+  pub from : (k w : ℕ) → In (listed (drop k old)) v → listed (drop k new) w ≡ (listed (drop k old) w && not (v == w))

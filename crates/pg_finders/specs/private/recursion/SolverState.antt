@@ -1,40 +1,28 @@
 -- The solver in its loop, and the steps that it takes (private).
-use Rattle.std.specs.Prelude.{ℕ, ◌≡◌, ◌+◌, ◌-◌, ◌≤◌, Bool, List, [], ◌∷◌, length, map, Option, None, Some, IsSome, IfSome}
+use Rattle.std.specs.Prelude.{ℕ, ◌≡◌, ◌+◌, ◌-◌, ◌≤◌, Bool, List, length, Option, None, Some, IsSome, IfSome}
 use Rattle.pg_game.specs.declared.player.Player.TheVariants.{Even, Odd}
 use Rattle.pg_game.specs.Graph.{Graph}
 use Rattle.pg_game.specs.VertexSet.{members}
 use Rattle.pg_game.specs.Subgame.{IsSubgame}
 use Rattle.pg_finders.specs.declared.recursion.Frame.{Frame}
-use Rattle.pg_finders.specs.declared.recursion.Settled.{Settled}
 use Rattle.pg_finders.specs.declared.recursion.Solver.{Solver}
 use Rattle.pg_finders.specs.private.recursion.Plans.{winners_of, choices_of}
 use Rattle.pg_finders.specs.Steps.{size}
-use Rattle.pg_finders.specs.private.recursion.Settled.{SettledLists, settled_of}
-use Rattle.pg_finders.specs.private.recursion.Order.{IsOrder, AllStand}
+use Rattle.pg_finders.specs.private.recursion.Settled.{SettledLists, settled_of, IsPlaced}
+use Rattle.pg_finders.specs.private.recursion.Order.{IsOrder}
 use Rattle.pg_finders.specs.private.recursion.TakenVertices.{active_of, HasSizes}
-use Rattle.pg_finders.specs.private.recursion.Levels.{Level}
-use Rattle.pg_finders.specs.private.recursion.OpenLevels.{level_at, AreOpenLevels}
-
--- the vertices of each level are before the place of its stop
-abbrev pub AllPlaced : List ℕ → List Level → List Frame → Type 0
-AllPlaced vertices [] fs = Unit {0}
-AllPlaced vertices (l ∷ ls) [] = Unit {0}
-AllPlaced vertices (l ∷ ls) (f ∷ fs) = AllStand vertices l.inside f.place × (f.place ≤ length vertices) × AllPlaced vertices ls fs
+use Rattle.pg_finders.specs.private.recursion.OpenLevels.{AreOpenLevels}
 
 -- the solver with these stops is under way in the mask
 pub record IsSolverState (g : Graph) (inside : List Bool) (solver : Solver) (frames : List Frame) : Type 0 where
   pub inside_length : length inside ≡ length g
   pub whole : solver.size ≡ size inside
-  pub sizes : HasSizes (length g) solver.subgame
-  pub subgame : IsSubgame g (active_of solver.subgame)
-  pub order : IsOrder g (active_of solver.subgame) solver.order
-  pub placed : AllPlaced solver.order.vertices.items (map (level_at (members inside) (settled_of solver.settled) solver.set_aside.items) frames) frames
-  pub open_levels : AreOpenLevels g (members inside) (active_of solver.subgame) (settled_of solver.settled) solver.set_aside.items frames
-      (winners_of solver.subgame.plan) (choices_of solver.subgame.plan)
-
--- the solver with other active vertices, and others that are settled
-abbrev pub with_active : Solver → List Bool → Settled → Solver
-with_active x active settled = record x { subgame = record x.subgame { active = active }; settled = settled }
+  pub sizes : HasSizes (length g) solver.parts.subgame
+  pub subgame : IsSubgame g (active_of solver.parts.subgame)
+  pub order : IsOrder g (active_of solver.parts.subgame) solver.order
+  pub placed : IsPlaced (length g) solver.parts.settled
+  pub open_levels : AreOpenLevels g (members inside) (active_of solver.parts.subgame) (settled_of solver.parts.settled) solver.set_aside.items frames
+      (winners_of solver.parts.subgame.plan) (choices_of solver.parts.subgame.plan)
 
 -- the number of vertices of the lists
 abbrev pub how_many_gone : SettledLists → List ℕ → ℕ

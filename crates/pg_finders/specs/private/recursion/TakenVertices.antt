@@ -3,13 +3,12 @@ use Rattle.std.specs.Prelude.{ℕ, suc, ◌≡◌, ◌≢◌, ◌<◌, ◌==◌,
 use Rattle.pg_game.specs.declared.player.Player.{Player}
 use Rattle.pg_game.specs.Player.{opponent}
 use Rattle.pg_game.specs.Graph.{Graph, HasEdge, owner_of}
-use Rattle.pg_game.specs.VertexSet.{VertexSet, In, Within, members, union}
+use Rattle.pg_game.specs.VertexSet.{VertexSet, In, members, union}
 use Rattle.pg_game.specs.private.VertexSet.{without}
 use Rattle.pg_finders.specs.declared.recursion.subgame.Subgame.{Subgame}
 use Rattle.pg_finders.specs.declared.recursion.subgame.Plan.{Plan}
 use Rattle.pg_finders.specs.private.recursion.Listed.{listed, Once}
 use Rattle.pg_finders.specs.private.recursion.Plans.{winners_of, choices_of, HasSize, SameOutside}
-use Rattle.pg_finders.specs.private.Solved.{won_inside}
 
 abbrev pub active_of : Subgame → VertexSet
 active_of x = members x.active
@@ -35,7 +34,7 @@ abbrev pub Before : List ℕ → ℕ → ℕ → Type 0
 Before list v w = In (listed list) w × (place list w < place list v)
 
 -- The player took active vertices: those of `more`, after the prefix. Each of his has a choice that is earlier in the list, and each edge
--- of the opponent's to a vertex that was active or in the list leads to an earlier one of the list.
+-- of the opponent's to a vertex that was active or in the list leads to an earlier one of the list. Elsewhere the plan is as it was.
 pub record HasTaken (g : Graph) (p : Player) (before : VertexSet) (old : Plan) (prefix : List ℕ) (after : VertexSet) (new : Plan) (list : List ℕ) : Type 0 where
   pub more : List ℕ
   pub list_is : list ≡ prefix ++ more
@@ -44,6 +43,7 @@ pub record HasTaken (g : Graph) (p : Player) (before : VertexSet) (old : Plan) (
   pub active_is : (v : ℕ) → after v ≡ without before (listed more) v
   pub his : (v : ℕ) → In (listed more) v → winners_of new v ≡ p
   pub same : SameOutside before old new
+  pub elsewhere : SameOutside (listed more) old new
   pub leads : (v : ℕ) → In (listed more) v → owner_of g v ≡ p → (w : ℕ) × (choices_of new v ≡ Some w) × HasEdge g v w × Before list v w
   pub pushed : (v w : ℕ) → In (listed more) v → owner_of g v ≡ opponent p → HasEdge g v w → In (union before (listed prefix)) w → Before list v w
 
@@ -51,16 +51,6 @@ pub record HasTaken (g : Graph) (p : Player) (before : VertexSet) (old : Plan) (
 abbrev pub KeepsTaken : Graph → Player → Subgame → List ℕ → Subgame → List ℕ → Type 0
 KeepsTaken g p x list x' list' = (before : VertexSet) (old : Plan) (prefix : List ℕ) → HasTaken g p before old prefix (active_of x) x.plan list
     → HasTaken g p before old prefix (active_of x') x'.plan list'
-
--- the inactive vertices of U that the plan gives to the player
-abbrev pub won_of : VertexSet → VertexSet → Plan → Player → VertexSet
-won_of U active plan p = won_inside (without U active) (winners_of plan) p
-
--- the list has what the player won in U, all of it that an active vertex of his leads to
-pub record IsKnown (g : Graph) (U : VertexSet) (p : Player) (active : VertexSet) (plan : Plan) (list : List ℕ) : Type 0 where
-  pub inside : Within active U
-  pub won : Within (listed list) (won_of U active plan p)
-  pub reached : (v w : ℕ) → In active v → owner_of g v ≡ p → HasEdge g v w → In (won_of U active plan p) w → In (listed list) w
 
 -- the vertex is taken, or it is the player's with no edge into D, or the opponent's and had a way to an active one
 abbrev pub IsTested : Graph → Player → VertexSet → VertexSet → VertexSet → ℕ → Type 0
@@ -71,7 +61,3 @@ IsTested g p D before now v =
 pub record AttractsNoActive (g : Graph) (p : Player) (U D active : VertexSet) : Type 0 where
   pub own : (v w : ℕ) → In active v → owner_of g v ≡ p → HasEdge g v w → D w ≡ false
   pub other : (v : ℕ) → In active v → owner_of g v ≡ opponent p → (w : ℕ) × HasEdge g v w × In U w × (D w ≡ false)
-
--- of the active vertices, only these may be attracted at once to the listed ones
-abbrev pub AttractsAtMost : Graph → Player → VertexSet → List ℕ → List ℕ → Type 0
-AttractsAtMost g p active list these = AttractsNoActive g p (union active (listed list)) (listed list) (without active (listed these))

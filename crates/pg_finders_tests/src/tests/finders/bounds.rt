@@ -1,5 +1,6 @@
-//! `zielonka_within` on a recursive ladder (Friedmann 2011): with enough steps it gives the claims of
-//! `zielonka`, and with fewer none. The number of steps is that of a plain recursion in another language.
+//! `zielonka_within` on a recursive ladder (Friedmann 2011), and on a game that was made to take many steps: with
+//! enough of them it gives the claims of `zielonka`, and with fewer none. The numbers of steps are those of `Recursion`
+//! in `tests/plain.py`, and the same whichever choices it keeps.
 
 use crate::tests::asserting::made;
 use crate::tests::finders::games::{game, whole};
@@ -32,6 +33,20 @@ const LADDER: &[Vertex] = &[
     (12, EVEN, &[6, 15]),
 ];
 
+/// Ten vertices, found by a search for games of many steps.
+const MANY_STEPS: &[Vertex] = &[
+    (2, EVEN, &[0, 4]),
+    (6, ODD, &[0, 2, 5]),
+    (1, EVEN, &[2, 4, 8]),
+    (10, EVEN, &[2]),
+    (0, ODD, &[0, 1, 4]),
+    (3, EVEN, &[5, 6, 9]),
+    (7, ODD, &[0, 8]),
+    (4, ODD, &[2, 3, 7]),
+    (5, ODD, &[2, 3]),
+    (11, EVEN, &[0, 4, 9]),
+];
+
 fn rows_of(solved: &Solved) -> (&[Row], &[Row]) {
     (solved.even.rows.as_slice(), solved.odd.rows.as_slice())
 }
@@ -48,17 +63,24 @@ fn assert_within(rt: &impl Abort, alloc: Global, inside: &Inside, steps: u64, is
     }
 }
 
-#[test]
-fn a_ladder_of_four_levels_needs_47_steps(rt: HostRuntime) {
-    let game = game(&rt, rt.alloc(), LADDER);
-    let inside = whole(&rt, rt.alloc(), &game);
-    for (steps, is_enough) in [
-        (0, false),
-        (10, false),
-        (46, false),
-        (47, true),
-        (u64::MAX, true),
-    ] {
-        assert_within(&rt, rt.alloc(), &inside, steps, is_enough);
+/// Just so many steps are enough.
+fn assert_needs(rt: &impl Abort, alloc: Global, vertices: &[Vertex], steps: u64) {
+    let game = game(rt, alloc, vertices);
+    let inside = whole(rt, alloc, &game);
+    for fewer in 0..steps {
+        assert_within(rt, alloc, &inside, fewer, false);
     }
+    assert_within(rt, alloc, &inside, steps, true);
+    assert_within(rt, alloc, &inside, u64::MAX, true);
+}
+
+#[test]
+fn a_ladder_of_four_levels_needs_13_steps(rt: HostRuntime) {
+    assert_needs(&rt, rt.alloc(), LADDER, 13);
+}
+
+/// A recursion that keeps nothing of what it has won needs 48.
+#[test]
+fn a_game_of_ten_vertices_needs_20_steps(rt: HostRuntime) {
+    assert_needs(&rt, rt.alloc(), MANY_STEPS, 20);
 }

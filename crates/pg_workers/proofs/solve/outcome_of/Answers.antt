@@ -4,7 +4,7 @@ use Rattle.pg_workers.proofs.KeptState.{is_done}
 use Rattle.pg_workers.proofs.solve.outcome_of.Goals as goal
 
 pub returns : goal.returns
-returns c = λ known total workers settled order rows.
+returns c = λ known total workers settled kept order rows.
     let new = c.post_rest.new.self in let later = c.in_ok-post_rest.ensures in
     let done = is_done _ later.limited in
     let full = c.in_ok-solution.ensures in
@@ -20,6 +20,7 @@ returns c = λ known total workers settled order rows.
       state = state;
       exact = exact;
       settled = settled;
+      kept = kept;
       order = order;
       rows = rows;
     })

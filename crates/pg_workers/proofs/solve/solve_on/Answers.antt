@@ -1,4 +1,6 @@
 use Rattle.pg_workers.proofs.Common.{◌≡◌, ◌∙◌, ℕ, ◌+◌, length, sym, ap, subst, arith, rules, Graph, KnownRows, HasSettled, IsInOrder, IsOutcome, ReportRow, List, number_settled, settled_in, total_of}
+use Rattle.pg_workers.proofs.Common.{state_of}
+use Rattle.pg_workers.specs.KnownRegions.{KeepsKnown}
 use Rattle.pg_workers.specs.declared.solve.Outcome.{Outcome}
 use Rattle.pg_workers.proofs.solve.solve_on.Goals as goal
 
@@ -26,6 +28,7 @@ returns-clause-outcome g c =
     let order : IsInOrder (total_of bound (length game)) own.report.items =
     subst (λ (n : ℕ). IsInOrder n own.report.items) total (own.ensures.report.order _ run.order) in
     let outcome = c.in_ok-outcome_of.ensures known (total_of bound (length game)) workers
-    (subst (λ (h : Graph). HasSettled h known own.report.items own.own.journal) (sym of_game) own.ensures.settled) order
+    (subst (λ (h : Graph). HasSettled h known own.report.items own.own.journal) (sym of_game) own.ensures.settled)
+    (subst (λ (h : Graph). KeepsKnown h known (state_of own.own.journal)) (sym of_game) own.ensures.kept) order
     (own.ensures.report.rows workers run.rows) in
     same_outcome of_game c.in_ok-jobs.ensures.jobs.1 outcome

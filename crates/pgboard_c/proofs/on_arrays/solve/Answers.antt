@@ -1,4 +1,8 @@
-use Rattle.pgboard_c.proofs.Common.{subst, ◌∙◌, Graph, IsExactSolution, no_choice}
+use Rattle.pgboard_c.proofs.Common.{◌≡◌, ◌∙◌, ℕ, [], length, refl, subst, arith, rules, Graph, IsExactSolution, no_choice}
+use Rattle.std.specs.Prelude.{Option, IsNone}
+use Rattle.pg_board.specs.BoardRecord.{BoardRecord}
+use Rattle.pg_board.specs.Journal.{number_settled}
+use Rattle.pg_board.specs.Finish.{MayGiveUp, number_unsettled}
 use Rattle.pgboard_c.proofs.arrays.ChoiceNumbers.{choices_below}
 use Rattle.pgboard_c.proofs.on_arrays.solve.Goals as goal
 
@@ -8,3 +12,19 @@ write_results-requires-clause-below c =
     let found = rw c.in-Some.is at c.in_ok-solution.ensures.exact in
     let exact = subst (λ (g : Graph). IsExactSolution g c.in-Some.solution.rows) same found in
     choices_below _ _ no_choice c.in_ok-forward.ensures.game.1 exact c.in_ok-check_lengths.ensures.few
+
+-- on a new board all vertices are unsettled
+all_unsettled : (b : BoardRecord) (g : Graph) (limit : Option ℕ) → b.graph ≡ g → b.journal ≡ [] → MayGiveUp limit (number_unsettled b)
+    → MayGiveUp limit (length g)
+all_unsettled b g limit graph journal h =
+    let none : number_settled b.journal ≡ 0 = rw journal refl in
+    let same : length b.graph ≡ length g = rw graph refl in
+    let all : number_unsettled b ≡ length g = omega (arith, none, same) in
+    subst (λ (n : ℕ). MayGiveUp limit n) all h
+
+pub returns-in_default : goal.returns-in_default
+returns-in_default c =
+    let same = c.in_ok-open.ensures.graph ∙ c.in_ok-game.ensures in
+    let none : IsNone c.in_ok-solution.field-0 = search rules in
+    let shut = all_unsettled _ _ c.args.limit same c.in_ok-open.ensures.journal (c.in_ok-solution.ensures.limited none) in
+    ((c.in_ok-forward.forward, c.in_ok-forward.ensures.game, c.in_ok-check_lengths.ensures.fit, shut), search rules)

@@ -1,6 +1,11 @@
-use Rattle.pg_board.proofs.Common.{refl}
+use Rattle.pg_board.proofs.Common.{refl, ◌≡◌, ◌≤◌, ◌+◌, ap, sym, subst, length, arith, rules}
+use Rattle.pg_finders.specs.Steps.{steps}
+use Rattle.pg_board.specs.Slices.{slices_left}
+use Rattle.pg_board.specs.private.Stage.{IsStageOf}
+use Rattle.pg_board.specs.declared.advance.Stage.{Stage}
+use Rattle.pg_board.specs.Work.{total_of}
 use Rattle.pg_board.proofs.OwnEntries.{same_continued}
-use Rattle.pg_board.proofs.Slices.{begun_nearer, begun_taken}
+use Rattle.pg_board.proofs.Slices.{begun_nearer, begun_taken, further_nearer, further_taken, few_left, charged_all}
 use Rattle.pg_board.proofs.board.Board.advance.Goals as goal
 
 pub returns-then-is_full-clause-continued : goal.returns-then-is_full-clause-continued
@@ -13,3 +18,27 @@ returns-in_ok-recursion-in-Search-2-clause-nearer c =
 pub returns-in_ok-recursion-in-Search-2-clause-taken : goal.returns-in_ok-recursion-in-Search-2-clause-taken
 returns-in_ok-recursion-in-Search-2-clause-taken c =
     begun_taken _ _ _ _ _ _ _ c.in-Search-2.is c.in_ok-recursion-in-Search-2.ensures.few c.post_steps.ensures.nearer _
+
+pub returns-in_ok-recursion-in-Search-2-clause-charged : goal.returns-in_ok-recursion-in-Search-2-clause-charged
+returns-in_ok-recursion-in-Search-2-clause-charged c =
+    let total : total_of 4 (length c.args.self.now.graph) ≡ c.total.result = search rules in
+    let last : total_of 4 (length c.args.self.now.graph) ≤ c.in-Search.number + 1 = omega (arith, total, c.if-number-total.false) in
+    charged_all _ _ _ _ _ c.post_steps.result (few_left _ _ c.in-Search.number c.in-Search.is last) c.post_steps.ensures.spent
+
+pub returns-in-Recursion-clause-nearer : goal.returns-in-Recursion-clause-nearer
+returns-in-Recursion-clause-nearer c =
+    further_nearer c.args.self.now.graph c.args.stage c.in-Recursion.recursion.remaining c.args.steps.now _ c.post_steps-in-Recursion.result
+    (ap (slices_left c.args.self.now.graph) c.in-Recursion.is) c.post_steps-in-Recursion.ensures.nearer
+
+pub returns-in-Recursion-clause-taken : goal.returns-in-Recursion-clause-taken
+returns-in-Recursion-clause-taken c =
+    further_taken c.args.self.now.graph c.args.stage c.in-Recursion.recursion.remaining c.args.steps.now _ _ c.post_steps-in-Recursion.result
+    (ap (slices_left c.args.self.now.graph) c.in-Recursion.is) c.post_steps-in-Recursion.ensures.nearer
+
+pub returns-in-Recursion-clause-charged : goal.returns-in-Recursion-clause-charged
+returns-in-Recursion-clause-charged c =
+    let g = c.args.self.now.graph in
+    let run = subst (λ (x : Stage). IsStageOf g c.args.self.now.journal x) c.in-Recursion.is c.requires.stage in
+    let few : slices_left g c.args.stage ≤ 1 + steps (length g) =
+    subst (λ (x : Stage). slices_left g x ≤ 1 + steps (length g)) (sym c.in-Recursion.is) (omega (arith, run.few)) in
+    charged_all _ _ _ _ _ c.post_steps-in-Recursion.result few c.post_steps-in-Recursion.ensures.spent

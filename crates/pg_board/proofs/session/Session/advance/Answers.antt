@@ -1,7 +1,7 @@
 use Rattle.pg_board.proofs.Common.{◌≡◌, ◌≤◌, ◌+◌, ◌-◌, ℕ, false, ap, rules, state_of, IsFull, arith, arc_value}
 use Rattle.pg_board.specs.SessionRecord.{SessionRecord}
 use Rattle.pg_board.specs.Slices.{slices_left}
-use Rattle.pg_board.proofs.Slices.{still_open, in_session}
+use Rattle.pg_board.proofs.Slices.{still_open, in_session, charged_in_session}
 use Rattle.pg_board.proofs.session.Session.advance.Goals as goal
 
 -- the board after the slice is not full
@@ -27,3 +27,11 @@ returns-clause-nearer c = λ open_still some.
 
 pub returns-clause-taken : goal.returns-clause-taken
 returns-clause-taken c = λ open_still. remain c (c.args.steps.now - c.advance-answer.new.steps) (c.in_ok-self-inside.ensures.taken (not_full c open_still))
+
+pub returns-clause-charged : goal.returns-clause-charged
+returns-clause-charged c = λ open_still.
+    let graph : c.attach-board.result.graph ≡ arc_value c.self.inside.game = search rules in
+    let stage : c.replace-stage.result ≡ c.self.inside.stage = search rules in
+    charged_in_session _ _ _ _ c.args.self.now c.args.steps.now c.advance-answer.new.steps graph stage
+    (ap (λ (x : SessionRecord). x.board.graph) c.self.view_is) (ap (λ (x : SessionRecord). x.slices) c.self.view_is)
+    (c.in_ok-self-inside.ensures.charged (not_full c open_still))

@@ -1,38 +1,58 @@
-use Rattle.pg_finders.proofs.Common.{◌≡◌, ◌++◌, drop, sym, ◌∙◌, ap, subst, rules, members, settled_of, active_of, level_at, AllPlaced}
-use Rattle.pg_finders.proofs.recursion.StepBounds.{placed_pop}
-use Rattle.pg_finders.proofs.recursion.LoopSteps.{stop_fits}
-use Rattle.pg_finders.proofs.recursion.FinishedSubgame.{IsFinished, at_end, settle_finished}
+use Rattle.pg_finders.proofs.Common.{◌++◌, ◌∙◌, length, ap, refl, arith, settled_of}
+use Rattle.pg_finders.specs.declared.recursion.Solver.{Solver}
+use Rattle.pg_finders.proofs.recursion.FinishedSubgame.{Closes, at_end, place_within, part_is, part_below, part_few, part_once, part_fresh, closed}
+use Rattle.pg_finders.proofs.recursion.FinishedSubgame.{closed_fewer}
 use Rattle.pg_finders.proofs.recursion.Solver.close.Goals as goal
 
-pub append_from-requires : goal.append_from-requires
-append_from-requires c = rw c.deref.ensures.value (stop_fits c.args.self.now.frames.items c.args.frame c.requires.running.open_levels).1
+pub offset_bounds-deref-frame : goal.offset_bounds-deref-frame
+offset_bounds-deref-frame c =
+    let l = place_within c.args.self.now.frames.items c.args.frame c.requires.running c.deref.ensures.value in
+    omega (arith, c.deref.type_inv)
 
-abbrev After : Type 0
-After = goal.After-truncate
+pub slice_bounds-add_all-count : goal.slice_bounds-add_all-count
+slice_bounds-add_all-count c = place_within c.args.self.now.frames.items c.args.frame c.requires.running c.deref.ensures.value
 
-own : (c : After) → settled_of c.append_from.new.self c.args.frame.player
-    ≡ settled_of c.args.self.now.settled c.args.frame.player ++ drop c.args.frame.set_aside c.args.self.now.set_aside.items
-own c = c.in_ok-append_from.ensures.own ∙ ap (λ xs. settled_of c.args.self.now.settled c.args.frame.player ++ drop c.args.frame.set_aside xs)
-    c.deref.ensures.value
+pub slice_bounds-add_all-start : goal.slice_bounds-add_all-start
+slice_bounds-add_all-start c = place_within c.args.self.now.frames.items c.args.frame c.requires.running c.deref.ensures.value
 
-finished : (c : After) → IsFinished c.args.view.now.game.now c.args.view.now.mask.now c.args.self.now c.args.self.now.frames.items c.args.frame
-    (active_of c.args.self.now.subgame) (settled_of c.append_from.new.self) c.args.self.now.subgame.plan
-finished c = search (rules, settle_finished, at_end, c.requires.running, c.requires.done, c.requires.all, own, c.in_ok-append_from.ensures.other)
+pub add_all-requires-clause-placed : goal.add_all-requires-clause-placed
+add_all-requires-clause-placed c = (
+  length c.args.view.now.game.now,
+  c.requires.running.placed,
+  part_below c.args.self.now.frames.items c.args.frame c.requires.running c.deref.ensures.value,
+)
 
-pub returns-clause-running : goal.returns-clause-running
-returns-clause-running c =
+pub add_all-requires-clause-few : goal.add_all-requires-clause-few
+add_all-requires-clause-few c = part_few c.args.self.now.frames.items c.args.frame c.requires.running c.deref.ensures.value
+    (omega (arith, c.len-n.type_inv, c.len-n.ensures.number))
+
+pub add_all-requires-clause-once : goal.add_all-requires-clause-once
+add_all-requires-clause-once c = part_once c.args.self.now.frames.items c.args.frame c.requires.running c.deref.ensures.value
+
+pub add_all-requires-clause-fresh : goal.add_all-requires-clause-fresh
+add_all-requires-clause-fresh c = part_fresh c.args.self.now.frames.items c.args.frame c.requires.running c.deref.ensures.value
+
+abbrev after : goal.After-truncate → Solver
+after c = record c.args.self.now { parts = record c.args.self.now.parts { settled = c.add_all.new.self }; set_aside = c.truncate.new.self }
+
+closes : (c : goal.After-truncate) → Closes c.args.view.now.game.now c.args.self.now (after c) c.args.self.now.frames.items c.args.frame
+closes c =
     let x = c.args.self.now in
     record {
-      inside_length = c.requires.running.inside_length;
-      whole = c.requires.running.whole;
-      sizes = c.requires.running.sizes;
-      subgame = c.requires.running.subgame;
-      order = c.requires.running.order;
-      placed = rw c.truncate.ensures.items (subst (λ ls. AllPlaced x.order.vertices.items ls x.frames.items) (sym (finished c).kept)
-          (placed_pop x.order.vertices.items (level_at (members c.args.view.now.mask.now)
-          (settled_of x.settled) x.set_aside.items) x.frames.items c.args.frame c.requires.running.placed).0);
-      open_levels = rw c.truncate.ensures.items (finished c).open_levels;
+      subgame = refl;
+      order = refl;
+      size = refl;
+      frames = refl;
+      set_aside = c.truncate.ensures.items;
+      own = c.in_ok-add_all.ensures.own ∙ ap (λ xs. settled_of x.parts.settled c.args.frame.player ++ xs)
+          (part_is x.frames.items c.args.frame c.requires.running c.deref.ensures.value);
+      other = c.in_ok-add_all.ensures.other;
+      placed = c.in_ok-add_all.ensures.placed (length c.args.view.now.game.now) c.requires.running.placed
+          (part_below x.frames.items c.args.frame c.requires.running c.deref.ensures.value);
     }
 
+pub returns-clause-running : goal.returns-clause-running
+returns-clause-running c = closed (at_end c.args.self.now.frames.items c.args.frame c.requires.running c.requires.done) c.requires.all (closes c)
+
 pub returns-clause-fewer : goal.returns-clause-fewer
-returns-clause-fewer c = rw c.truncate.ensures.items (finished c).fewer
+returns-clause-fewer c = closed_fewer (at_end c.args.self.now.frames.items c.args.frame c.requires.running c.requires.done) c.requires.all (closes c)

@@ -7,7 +7,7 @@ invariant-steps l = record {
   fewer : AreFewer l.initial.left l.left;
   spends : work (size l.view.mask.now) l.self l.self.frames.items + number_left l.initial.left
       ≤ work (size l.view.mask.now) l.fn.self l.fn.self.frames.items + number_left l.left;
-  no_steps : l.initial.left ≡ Some 0 → (v : ℕ) → In (active_of l.fn.self.subgame) v → (l.left ≡ Some 0) × In (active_of l.self.subgame) v;
+  no_steps : l.initial.left ≡ Some 0 → (v : ℕ) → In (active_of l.fn.self.parts.subgame) v → (l.left ≡ Some 0) × In (active_of l.self.parts.subgame) v;
 }
 
 abbrev pub decreases-steps : goal.decreases-steps

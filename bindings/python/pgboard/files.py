@@ -1,0 +1,39 @@
+"""Games of files in each form that the command reads. It needs no library."""
+
+# mypy: ignore-errors
+
+from __future__ import annotations
+
+import os
+from types import SimpleNamespace
+from typing import TYPE_CHECKING, List, NamedTuple, Union
+
+if TYPE_CHECKING:
+    from .arrays import Ints, PathLike
+
+
+class Game(NamedTuple):
+    """A game in arrays as `solve_csr` takes them, and the identifiers of its vertices."""
+
+    ids: List[int]
+    owners: Ints
+    priorities: Ints
+    indptr: Ints
+    indices: Ints
+
+
+def read_game(
+    path: Union[str, PathLike], *, least: bool = False, odd: bool = False, dead_ends: bool = False
+) -> Game:
+    """The game of a file, which may be packed, with the rules that its text does not say. Vertices have the
+    order of their identifiers. Raises OSError where the file can't be read, and ValueError, which names the
+    place, where it has no game.
+    """
+    from .command import Refused
+    from .command.games import game_of
+
+    try:
+        rules = SimpleNamespace(min=least, odd=odd, dead_ends=dead_ends)
+        return Game(*game_of(os.fspath(path), rules).arrays())
+    except Refused as refused:
+        raise ValueError(str(refused)) from None

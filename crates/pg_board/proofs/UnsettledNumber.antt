@@ -1,0 +1,84 @@
+-- How many vertices are unsettled, and that a call gives up only under a limit below the most steps that they take.
+use Rattle.pg_board.proofs.Common.{◌≡◌, ◌≤◌, ◌<◌, ◌+◌, ◌-◌, ℕ, zero, suc, Bool, true, false, not, inl, inr, List, [], ◌∷◌, length, refl, sym, ◌∙◌, ap, arith}
+use Rattle.pg_board.proofs.Common.{rules, length-set, eq-eqb, nat_eq, cases_lt, and-false, Option, None, Some, if◌then◌else◌, IsDistinct, recursion_from_All}
+use Rattle.pg_board.proofs.Common.{Graph, members, unsettled, is_unsettled, state_of, Journal, IsLawful, number_settled, named, BoardRecord}
+use Rattle.std.specs.Prelude.{slice_set, IsSome}
+use Rattle.std.specs.List.{AllByRecursion}
+use Rattle.std.proofs.lemmas.List.{get_or-set_other}
+use Rattle.std.proofs.lemmas.List.Sums.{sum_by-append}
+use Rattle.std.proofs.lemmas.Map.Keys.{IsDistinct-head, IsDistinct-tail}
+use Rattle.pg_finders.specs.Steps.{size, steps}
+use Rattle.pg_finders.proofs.Sizes.{size_below}
+use Rattle.pg_board.specs.Finish.{IsContinued, MayGiveUp, number_unsettled}
+use Rattle.pg_board.proofs.Distinct.{AllRows, each_named}
+use Rattle.pg_board.proofs.Numbers.{Settled, number_is, in_vertices, settled_vertices, below}
+
+-- the vertex has a place in the mask, and is not in it
+abbrev Free : List Bool → ℕ → Type 0
+Free mask v = (v < length mask) × (members mask v ≡ false)
+
+abbrev one : Bool → ℕ
+one b = if b then 1 else 0
+
+size_set : (mask : List Bool) (v : ℕ) → Free mask v → size (slice_set mask v true) ≡ size mask + 1
+size_set [] v f = absurd (omega (arith, f.0))
+size_set (b ∷ bs) zero f = let e : one b ≡ 0 = rw f.1 refl in omega (arith, e)
+size_set (b ∷ bs) (suc v) f = let h = size_set bs v (omega (arith, f.0), f.1) in omega (arith, h)
+
+still_free : (mask : List Bool) (v w : ℕ) → nat_eq v w ≡ false → Free mask w → Free (slice_set mask v true) w
+still_free mask v w apart f =
+    let other : w ≡ v → ⊥ = λ e. (let t = eq-eqb v w (sym e) in absurd (cc (t, apart))) in
+    (omega (arith, f.0, length-set mask v true), get_or-set_other mask v w true false other ∙ f.1)
+
+all_free : (mask : List Bool) (v : ℕ) (vs : List ℕ) → AllByRecursion (λ w. nat_eq v w ≡ false) vs → AllByRecursion (Free mask) vs
+    → AllByRecursion (Free (slice_set mask v true)) vs
+all_free mask v [] a f = tt
+all_free mask v (w ∷ ws) a f = (still_free mask v w a.0 f.0, all_free mask v ws a.1 f.1)
+
+-- distinct vertices beside those of a mask
+beside : (vs : List ℕ) (mask : List Bool) → IsDistinct nat_eq vs → AllByRecursion (Free mask) vs → length vs + size mask ≤ length mask
+beside [] mask d f = let h = size_below mask in omega (arith, h)
+beside (v ∷ vs) mask d f =
+    let more = beside vs (slice_set mask v true) (IsDistinct-tail nat_eq v vs d) (all_free mask v vs (IsDistinct-head nat_eq v vs d) f.1) in
+    omega (arith, more, size_set mask v f.0, length-set mask v true)
+
+-- a mask of what is unsettled has no more vertices than there are
+pub size_unsettled : (b : BoardRecord) (mask : List Bool) → IsLawful b.graph b.journal → length mask ≡ length b.graph
+    → ((v : ℕ) → members mask v ≡ unsettled b.graph (state_of b.journal) v) → size mask ≤ number_unsettled b
+size_unsettled b mask lawful sized are =
+    let all = recursion_from_All (Free mask) (Settled b.journal) (each_named (Free mask) (AllRows b.journal) free) in
+    let h = beside (Settled b.journal) mask lawful.once all in
+    omega (arith, h, sized, number_is b.journal)
+  where
+    free : (v : ℕ) → named (AllRows b.journal) v ≡ true → Free mask v
+    free v n =
+        let i = in_vertices (AllRows b.journal) v ∙ n in
+        let shut : is_unsettled (state_of b.journal v) ≡ false = search (rules, settled_vertices b.journal v, i) in
+        (omega (arith, below b.graph b.journal lawful v i, sized), are v ∙ rw shut (and-false _))
+
+steps_grow : (m n : ℕ) → m ≤ n → steps m ≤ steps n
+steps_grow zero zero l = omega arith
+steps_grow zero (suc n) l = let h = steps_grow zero n (omega arith) in omega (arith, h)
+steps_grow (suc m) zero l = absurd (omega (arith, l))
+steps_grow (suc m) (suc n) l = let h = steps_grow m n (omega (arith, l)) in omega (arith, h)
+
+pub gives_up_before : (limit : Option ℕ) (m n : ℕ) → m ≤ n → MayGiveUp limit m → MayGiveUp limit n
+gives_up_before None m n l h = h
+gives_up_before (Some k) m n l h = omega (arith, h, steps_grow m n l)
+
+-- who gives up has not got enough
+pub may_give_up : (limit : Option ℕ) (m : ℕ) (Found : Type 0) → (Found → ⊥) → (limit ≡ None → Found) → ((k : ℕ) → limit ≡ Some k → steps m ≤ k → Found)
+    → MayGiveUp limit m
+may_give_up None m Found never unlimited enough = never (unlimited refl)
+may_give_up (Some k) m Found never unlimited enough = elim (cases_lt k (steps m)) [
+  | inl lt ↦ lt
+  | inr ge ↦ absurd (never (enough k refl ge))
+]
+
+-- further entries leave no more unsettled
+pub fewer_unsettled : (old new : BoardRecord) → IsContinued old new → number_unsettled new ≤ number_unsettled old
+fewer_unsettled old new more =
+    let added : number_settled new.journal ≡ number_settled old.journal + number_settled more.added =
+    ap number_settled more.journal ∙ sum_by-append (λ e. length e.rows) old.journal more.added in
+    let same : length new.graph ≡ length old.graph = rw more.graph refl in
+    omega (arith, added, same)

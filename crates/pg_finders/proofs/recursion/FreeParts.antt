@@ -1,0 +1,159 @@
+-- What is free where a subgame is taken up again: as sets, and where a vertex is taken.
+use Rattle.pg_finders.proofs.Common.{◌≡◌, ◌≢◌, ℕ, ◌<◌, Bool, true, false, ◌&&◌, ◌||◌, not, inl, inr, List, [], ◌∷◌, ◌++◌, Option, refl, sym, ◌∙◌, ap}
+use Rattle.pg_finders.proofs.Common.{subst, arith, append_assoc, ◌==◌, eqb-true, or_cases, or_left, false_from_ne_true, length-set}
+use Rattle.pg_finders.proofs.Common.{slice_set, Graph, Player, opponent, VertexSet, In, union, without, IsAttractedRow, Plan, listed, settled_of, active_of}
+use Rattle.pg_finders.proofs.Common.{own_or_other, member_below, HasTaken, SameAt, winners_of, choices_of}
+use Rattle.pg_finders.specs.declared.recursion.parts.Parts.{Parts}
+use Rattle.pg_finders.specs.declared.recursion.settled.Settled.{Settled}
+use Rattle.pg_finders.specs.private.recursion.Settled.{IsPlaced, IsWithout}
+use Rattle.pg_finders.specs.private.recursion.Parts.{rest_of, free_of, AreParts, FitParts, AreFewerParts}
+use Rattle.pg_finders.proofs.Masks.{members-unset}
+use Rattle.pg_finders.proofs.Sets.{no_both, only}
+use Rattle.pg_finders.proofs.recursion.ListsAsSets.{in_rest, prefix_or_rest, in_drop}
+use Rattle.pg_finders.proofs.recursion.RepeatedAttraction.{all_listed}
+use Rattle.pg_finders.proofs.recursion.AttractionSteps.{grown_one, grown_then}
+use Rattle.pg_finders.proofs.recursion.PlacedLists.{stands_is}
+
+-- what is free, where the lists are placed
+pub free_is : {n : ℕ} {x : Parts} → AreParts n x → (v : ℕ) → free_of x v ≡ union (active_of x.subgame) (listed (rest_of x)) v
+free_is {n} {x} a v = ap (λ b. active_of x.subgame v || b)
+    (stands_is x.settled.places.items (settled_of x.settled x.player) (a.placed.table x.player) x.from v)
+
+-- a free vertex that is not active is settled
+pub settled_free : {n : ℕ} {x : Parts} → AreParts n x → (v : ℕ) → In (free_of x) v → active_of x.subgame v ≡ false → In (listed (rest_of x)) v
+settled_free {n} {x} a v i m = elim (or_cases (active_of x.subgame v) (listed (rest_of x) v) (sym (free_is a v) ∙ i)) [
+  | inl y ↦ absurd (no_both y m)
+  | inr y ↦ y
+]
+
+pub free_below : {n : ℕ} {x : Parts} → AreParts n x → (v : ℕ) → In (free_of x) v → v < n
+free_below {n} {x} a v i = elim (or_cases (active_of x.subgame v) (listed (rest_of x) v) (sym (free_is a v) ∙ i)) [
+  | inl y ↦ (let l = member_below x.subgame.active v y in omega (arith, l, a.sizes.active))
+  | inr y ↦ all_listed (λ u. u < n) (settled_of x.settled x.player) (a.placed.below x.player) v (in_drop x.from (settled_of x.settled x.player) v y)
+]
+
+less_active : (a l b : Bool) → (b ≡ true → l ≡ false) → ((a && not b) || l) ≡ ((a || l) && not b)
+less_active true true true f = absurd (let h = f refl in cc h)
+less_active true false true f = refl
+less_active false true true f = absurd (let h = f refl in cc h)
+less_active false false true f = refl
+less_active true l false f = refl
+less_active false true false f = refl
+less_active false false false f = refl
+
+less_settled : (a l b : Bool) → (b ≡ true → a ≡ false) → (a || (l && not b)) ≡ ((a || l) && not b)
+less_settled true l true f = absurd (let h = f refl in cc h)
+less_settled false l b f = refl
+less_settled true l false f = refl
+
+-- an active vertex is active no more
+module _ {n : ℕ} {x : Parts} (a : AreParts n x) (v : ℕ) (i : In (active_of x.subgame) v) where
+  abbrev y : Parts
+  y = record x { subgame = record x.subgame { active = slice_set x.subgame.active v false } }
+
+  now : (w : ℕ) → active_of y.subgame w ≡ (active_of x.subgame w && not (v == w))
+  now w = members-unset x.subgame.active v w
+
+  was : (w : ℕ) → In (active_of y.subgame) w → In (active_of x.subgame) w
+  was w j = (only (active_of x.subgame w) (v == w) (sym (now w) ∙ j)).0
+
+  pub unset_parts : AreParts n y
+  unset_parts = record {
+    sizes = record { active = length-set x.subgame.active v false ∙ a.sizes.active; cursors = a.sizes.cursors; plan = a.sizes.plan };
+    placed = a.placed;
+    apart = λ p w j. false_from_ne_true (active_of y.subgame w) (λ z. no_both (was w z) (a.apart p w j));
+  }
+
+  pub unset_free : (w : ℕ) → free_of y w ≡ without (free_of x) (λ u. v == u) w
+  unset_free w = free_is unset_parts w ∙ (ap (λ b. b || listed (rest_of x) w) (now w)
+      ∙ (less_active (active_of x.subgame w) (listed (rest_of x) w) (v == w)
+      (λ e. false_from_ne_true (listed (rest_of x) w) (λ z. no_both (subst (In (active_of x.subgame)) (eqb-true v w e) i)
+      (a.apart x.player w (in_drop x.from (settled_of x.settled x.player) w z))))
+      ∙ ap (λ b. b && not (v == w)) (sym (free_is a w))))
+
+  pub unset_fewer : AreFewerParts x y
+  unset_fewer = record {
+    player = refl;
+    from = refl;
+    other = refl;
+    own = refl;
+    active = was;
+    rest = λ w j. j;
+    free = λ w m. false_from_ne_true (free_of y w) (λ z. no_both (only (free_of x w) (v == w) (sym (unset_free w) ∙ z)).0 m);
+  }
+
+-- a settled vertex is settled no more
+module _ {n : ℕ} {x : Parts} (a : AreParts n x) (v : ℕ) (m : active_of x.subgame v ≡ false) (i : In (listed (rest_of x)) v) (settled : Settled)
+    (placed : IsPlaced n settled) (own : IsWithout v (settled_of x.settled x.player) (settled_of settled x.player))
+    (other : settled_of settled (opponent x.player) ≡ settled_of x.settled (opponent x.player)) where
+  abbrev z : Parts
+  z = record x { settled = settled }
+
+  rest_now : (w : ℕ) → listed (rest_of z) w ≡ (listed (rest_of x) w && not (v == w))
+  rest_now w = own.from x.from w i
+
+  rest_was : (w : ℕ) → In (listed (rest_of z)) w → In (listed (rest_of x)) w
+  rest_was w j = (only (listed (rest_of x) w) (v == w) (sym (rest_now w) ∙ j)).0
+
+  was_settled : (p : Player) (w : ℕ) → In (listed (settled_of settled p)) w → In (listed (settled_of x.settled p)) w
+  was_settled p w j = elim (own_or_other p x.player) [
+    | inl e ↦ subst (λ q. In (listed (settled_of x.settled q)) w) (sym e) (only (listed (settled_of x.settled x.player) w) (v == w)
+        (sym (own.from 0 w (in_drop x.from (settled_of x.settled x.player) v i)) ∙ subst (λ q. In (listed (settled_of settled q)) w) e j)).0
+    | inr e ↦ subst (λ q. In (listed (settled_of x.settled q)) w) (sym e) (subst (λ xs. In (listed xs) w) other
+        (subst (λ q. In (listed (settled_of settled q)) w) e j))
+  ]
+
+  pub unsettled_parts : AreParts n z
+  unsettled_parts = record { sizes = a.sizes; placed = placed; apart = λ p w j. a.apart p w (was_settled p w j) }
+
+  pub unsettled_free : (w : ℕ) → free_of z w ≡ without (free_of x) (λ u. v == u) w
+  unsettled_free w = free_is unsettled_parts w ∙ (ap (λ b. active_of x.subgame w || b) (rest_now w)
+      ∙ (less_settled (active_of x.subgame w) (listed (rest_of x) w) (v == w) (λ e. subst (λ u. active_of x.subgame u ≡ false) (eqb-true v w e) m)
+      ∙ ap (λ b. b && not (v == w)) (sym (free_is a w))))
+
+  pub unsettled_fewer : AreFewerParts x z
+  unsettled_fewer = record {
+    player = refl;
+    from = refl;
+    other = other;
+    own = own.before x.from i;
+    active = λ w j. j;
+    rest = rest_was;
+    free = λ w k. false_from_ne_true (free_of z w) (λ j. no_both (only (free_of x w) (v == w) (sym (unsettled_free w) ∙ j)).0 k);
+  }
+
+-- a row leads to the list also where others stand before it that are not free
+pub leads_behind : {g : Graph} {p : Player} {F : VertexSet} {v : ℕ} {o : Option ℕ} (first list : List ℕ) → ((w : ℕ) → In (listed first) w → F w ≡ false)
+    → In F v → IsAttractedRow g p (union F (listed list)) (listed list) (v, o) → IsAttractedRow g p (union F (listed (first ++ list))) (listed (first ++ list)) (v, o)
+leads_behind {F = F} {v} first list apart i h = record {
+  inside = or_left (F v) (listed (first ++ list) v) i;
+  fresh = false_from_ne_true (listed (first ++ list) v) (λ y. elim (prefix_or_rest first list v y) [
+    | inl a ↦ no_both i (apart v a)
+    | inr b ↦ no_both b h.fresh
+  ]);
+  own = λ e. (let c = h.own e in (c.0, c.1, c.2, in_rest first list c.0 c.3));
+  forced = λ n. (let c = h.forced n in (
+    c.0,
+    λ w e u. elim (or_cases (F w) (listed (first ++ list) w) u) [
+      | inl f ↦ in_rest first list w (c.1 w e (or_left (F w) (listed list w) f))
+      | inr y ↦ y
+    ],
+  ));
+}
+
+pub grown_behind_one : {g : Graph} {p : Player} {F F' before : VertexSet} {old mid new : Plan} {prefix : List ℕ} (first list : List ℕ) (v : ℕ)
+    → ((w : ℕ) → In (listed first) w → F w ≡ false) → HasTaken g p before old prefix F mid (first ++ list) → In F v
+    → ((w : ℕ) → F' w ≡ without F (λ u. v == u) w) → winners_of new v ≡ p → ((w : ℕ) → w ≢ v → SameAt mid new w)
+    → IsAttractedRow g p (union F (listed list)) (listed list) (v, choices_of new v) → HasTaken g p before old prefix F' new (first ++ (list ++ v ∷ []))
+grown_behind_one {g} {p} {F} {F'} {before} {old} {mid} {new} {prefix} first list v apart h i now winner elsewhere leads =
+    subst (λ ys. HasTaken g p before old prefix F' new ys) (append_assoc first list (v ∷ []))
+    (grown_then {new = new} h (grown_one (record {
+      active = i;
+      now = now;
+      winner = winner;
+      elsewhere = elsewhere;
+      leads = leads_behind first list apart i leads;
+    })))
+
+pub not_listed : {n : ℕ} {x : Parts} {list : List ℕ} → FitParts n x list → (v : ℕ) → In (free_of x) v → listed list v ≡ false
+not_listed {n} {x} {list} f v i = false_from_ne_true (listed list v) (λ y. no_both i (f.apart v y))

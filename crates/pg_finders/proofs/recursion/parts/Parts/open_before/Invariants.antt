@@ -1,0 +1,10 @@
+use Rattle.pg_finders.proofs.Common.{◌<◌, ℕ, length, slice_index}
+use Rattle.pg_finders.specs.private.recursion.Parts.{AreParts, RestsOn, HasOpened}
+use Rattle.pg_finders.proofs.recursion.parts.Parts.open_before.Given as goal
+
+abbrev pub invariant-loop-v : goal.invariant-loop-v
+invariant-loop-v l = record {
+  parts : AreParts (length l.game) l.self;
+  opened : HasOpened l.fn.self l.fn.list.items l.self l.list.items;
+  none : (k : ℕ) → k < l.v-index → RestsOn l.game l.self (slice_index l.v-items k) l.to → ⊥;
+}

@@ -1,0 +1,148 @@
+-- A subgame that is taken up again after its opponent has won something in its rest (private).
+use Rattle.std.specs.Prelude.{ℕ, ◌≡◌, ◌≤◌, ◌+◌, ◌-◌, ◌⊎◌, false, Some, List, [], ◌∷◌, ◌++◌, length, take, drop}
+use Rattle.pg_game.specs.declared.player.Player.{Player}
+use Rattle.pg_game.specs.declared.player.Player.TheVariants.{Even, Odd}
+use Rattle.pg_game.specs.Player.{opponent}
+use Rattle.pg_game.specs.Graph.{Graph, HasEdge, owner_of}
+use Rattle.pg_game.specs.VertexSet.{VertexSet, In, Within, union}
+use Rattle.pg_game.specs.private.VertexSet.{without}
+use Rattle.pg_finders.specs.declared.recursion.Frame.{Frame}
+use Rattle.pg_finders.specs.declared.recursion.Solver.{Solver}
+use Rattle.pg_finders.specs.declared.recursion.parts.Parts.{Parts}
+use Rattle.pg_finders.specs.declared.recursion.subgame.Plan.{Plan}
+use Rattle.pg_finders.specs.private.Solved.{IsAttracted}
+use Rattle.pg_finders.specs.private.recursion.Listed.{listed, Once, Apart}
+use Rattle.pg_finders.specs.private.recursion.Levels.{Level}
+use Rattle.pg_finders.specs.private.recursion.OpenLevels.{count_at, level_at}
+use Rattle.pg_finders.specs.private.recursion.Order.{AreVertices}
+use Rattle.pg_finders.specs.private.recursion.Parts.{rest_of, AreParts, AttractsFree}
+use Rattle.pg_finders.specs.private.recursion.Plans.{winners_of, choices_of, SameAt, SameOutside}
+use Rattle.pg_finders.specs.private.recursion.Settled.{SettledLists, settled_of}
+use Rattle.pg_finders.specs.private.recursion.TakenVertices.{active_of, place, HasTaken, AttractsNoActive}
+
+-- what the frame has set aside, of all that is, and the greatest of it
+abbrev pub aside_of : Frame → List ℕ → List ℕ
+aside_of f xs = take (f.upto - f.set_aside) (drop f.set_aside xs)
+
+abbrev pub greatest_of : Frame → List ℕ → List ℕ
+greatest_of f xs = take (f.tops - f.set_aside) (drop f.set_aside xs)
+
+-- the player's vertices that were settled since the subgame was begun
+abbrev pub since : Frame → SettledLists → Player → List ℕ
+since f settled p = drop (count_at f p) (settled p)
+
+-- what was set aside is active again, and what the level's player has won in its rest is free
+pub record IsReopened (n : ℕ) (level : Level) (aside lost won : List ℕ) (from : ℕ) (old : Plan) (x : Parts) : Type 0 where
+  pub parts : AreParts n x
+  pub player : x.player ≡ level.player
+  pub has_won : rest_of x ≡ won
+  pub has_lost : drop from (settled_of x.settled (opponent level.player)) ≡ lost
+  pub active : (v : ℕ) → active_of x.subgame v ≡ listed aside v
+  pub plan : x.subgame.plan ≡ old
+
+-- In the rest of the level the opponent had won `lost` and the player `won`. The opponent has taken what he attracts too; the first k of those set
+-- aside are the greatest that are left, and they attract the others; of what he had won the player keeps some; all else is active.
+pub record IsShrunk (g : Graph) (level : Level) (lost won : List ℕ) (old : Plan) (taken aside : List ℕ) (k : ℕ) (kept : List ℕ) (active : VertexSet)
+    (new : Plan) : Type 0 where
+  pub rank : ℕ → ℕ
+  pub attracted : IsAttracted g (opponent level.player) level.inside (listed lost) (listed (lost ++ taken)) (choices_of new) rank
+  pub taken_once : Once taken
+  pub taken_apart : Apart lost taken
+  pub taken_his : (v : ℕ) → In (listed taken) v → winners_of new v ≡ opponent level.player
+  pub again : IsAttracted g level.player (without (without level.inside level.left) (listed (lost ++ taken))) (without level.tops (listed (lost ++ taken)))
+      (listed aside) (choices_of new) (place aside)
+  pub few : k ≤ length aside
+  pub tops : (v : ℕ) → listed (take k aside) v ≡ without level.tops (listed (lost ++ taken)) v
+  pub chosen : (v : ℕ) → In (listed (take k aside)) v → owner_of g v ≡ level.player
+      → (w : ℕ) × (choices_of new v ≡ Some w) × HasEdge g v w × In (without level.inside (listed (lost ++ taken))) w
+  pub aside_once : Once aside
+  pub aside_his : (v : ℕ) → In (listed aside) v → winners_of new v ≡ level.player
+  pub kept_was : Within (listed kept) (without (listed won) (listed (lost ++ taken)))
+  pub rests : (v w : ℕ) → In (listed kept) v → HasEdge g v w → (owner_of g v ≡ opponent level.player) ⊎ (choices_of new v ≡ Some w)
+      → (active w ≡ false) × (listed taken w ≡ false)
+  pub active_is : (v : ℕ) → active v ≡ without (without (without level.inside (listed (lost ++ taken))) (listed aside)) (listed kept) v
+  pub outside : SameOutside level.inside old new
+  pub same_lost : (v : ℕ) → In (listed lost) v → SameAt old new v
+  pub same_kept : (v : ℕ) → In (listed kept) v → SameAt old new v
+
+-- only the parts and the list have changed
+pub record KeepsLists (x x' : Solver) : Type 0 where
+  pub frames : x'.frames ≡ x.frames
+  pub set_aside : x'.set_aside ≡ x.set_aside
+  pub order : x'.order ≡ x.order
+  pub opened : x'.opened ≡ x.opened
+  pub size : x'.size ≡ x.size
+
+-- the opponent has taken what he attracts of what is free, once the frame's level is reopened
+pub record Loses (g : Graph) (U : VertexSet) (f : Frame) (x x' : Solver) : Type 0 where
+  pub freed : Parts
+  pub reopened : IsReopened (length g) (level_at U (settled_of x.parts.settled) x.set_aside.items f) (aside_of f x.set_aside.items)
+      (since f (settled_of x.parts.settled) (opponent f.player)) (since f (settled_of x.parts.settled) f.player) (count_at f (opponent f.player))
+      x.parts.subgame.plan freed
+  pub settled : freed.settled ≡ x.parts.settled
+  pub from : freed.from ≡ count_at f f.player
+  pub attracts : AttractsFree g (opponent f.player) (count_at f (opponent f.player)) freed x'.parts x'.list.items
+  pub parts : AreParts (length g) x'.parts
+  pub kept : KeepsLists x x'
+
+-- the solver has done so with the level of the frame
+pub record Shrinks (g : Graph) (U : VertexSet) (f : Frame) (x x' : Solver) (k : ℕ) : Type 0 where
+  pub taken : List ℕ
+  pub shrunk : IsShrunk g (level_at U (settled_of x.parts.settled) x.set_aside.items f)
+      (drop (count_at f (opponent f.player)) (settled_of x.parts.settled (opponent f.player)))
+      (drop (count_at f f.player) (settled_of x.parts.settled f.player)) x.parts.subgame.plan taken x'.list.items k
+      (drop (count_at f f.player) (settled_of x'.parts.settled f.player)) (active_of x'.parts.subgame) x'.parts.subgame.plan
+  pub lost : settled_of x'.parts.settled (opponent f.player) ≡ settled_of x.parts.settled (opponent f.player) ++ taken
+  pub before : take (count_at f f.player) (settled_of x'.parts.settled f.player) ≡ take (count_at f f.player) (settled_of x.parts.settled f.player)
+  pub parts : AreParts (length g) x'.parts
+  pub opened_right : AreVertices g x'.opened.items
+  pub opened_once : Once x'.opened.items
+  pub opened_all : Within (active_of x'.parts.subgame) (listed x'.opened.items)
+  pub set_aside : x'.set_aside.items ≡ take f.set_aside x.set_aside.items
+  pub frames : x'.frames.items ≡ x.frames.items
+  pub order : x'.order ≡ x.order
+  pub size : x'.size ≡ x.size
+
+-- the frame of a subgame whose attractor is listed, the first k the greatest, after those that are set aside
+abbrev pub frame_of : Player → ℕ → ℕ → ℕ → Solver → Frame
+frame_of p k even odd x = record {
+  player = p;
+  even = even;
+  odd = odd;
+  set_aside = length x.set_aside.items;
+  tops = length x.set_aside.items + k;
+  upto = length (x.set_aside.items ++ x.list.items);
+}
+
+-- the listed vertices are set aside, and their subgame waits
+pub record Waits (p : Player) (k even odd : ℕ) (x x' : Solver) : Type 0 where
+  pub frames : x'.frames.items ≡ x.frames.items ++ frame_of p k even odd x ∷ []
+  pub set_aside : x'.set_aside.items ≡ x.set_aside.items ++ x.list.items
+  pub parts : x'.parts ≡ x.parts
+  pub order : x'.order ≡ x.order
+  pub opened : x'.opened ≡ x.opened
+  pub size : x'.size ≡ x.size
+
+-- of the frame's player those that were settled when the subgame was begun, of the other one all that are settled
+abbrev pub count_again : Frame → SettledLists → Player → Player → ℕ
+count_again f settled Even Even = f.even
+count_again f settled Even Odd = length (settled Odd)
+count_again f settled Odd Even = length (settled Even)
+count_again f settled Odd Odd = f.odd
+
+-- nothing has changed if no vertex is the greatest
+abbrev pub WaitsAgain : Frame → ℕ → Solver → Solver → Type 0
+WaitsAgain f k x x' = ((k ≡ 0) × (x' ≡ x))
+    ⊎ ((1 ≤ k) × Waits f.player k (count_again f (settled_of x.parts.settled) f.player Even) (count_again f (settled_of x.parts.settled) f.player Odd)
+    x x')
+
+-- the player has attracted active vertices to what was settled for him from a place on, unless that is nothing
+pub record WinsBack (g : Graph) (p : Player) (from : ℕ) (x x' : Parts) : Type 0 where
+  pub more : List ℕ
+  pub grown : HasTaken g p (active_of x.subgame) x.subgame.plan (drop from (settled_of x.settled p)) (active_of x'.subgame) x'.subgame.plan
+      (drop from (settled_of x.settled p) ++ more)
+  pub done : ((drop from (settled_of x.settled p) ≡ []) × (more ≡ []))
+      ⊎ AttractsNoActive g p (union (active_of x.subgame) (listed (drop from (settled_of x.settled p)))) (listed (drop from (settled_of x.settled p) ++ more))
+      (active_of x'.subgame)
+  pub own : settled_of x'.settled p ≡ settled_of x.settled p ++ more
+  pub other : settled_of x'.settled (opponent p) ≡ settled_of x.settled (opponent p)
