@@ -28,16 +28,17 @@ SAID_OF = {
     # (the winner of 12 does not own it)
     "3 0 3; 12 0 3;": "Even settled 2, of which 2 of 2 claimed",
     "3 0 9;": "Even refused: 3 leaves to 9",
+    "3 0 4;": "Even refused: bad choice or none at 3",
     "3 0 9; 9 0;": "Even refused: bad cycle at 9",
-    "3 0; 9 1 9;": "Even refused: no choice, or a bad one, at 3; Odd settled 1, of which 1 of 1 claimed",
-    "9 1 12; 12 1 3;": "Odd refused: no choice, or a bad one, at 9",
+    "3 0; 9 1 9;": "Even refused: bad choice or none at 3; Odd settled 1, of which 1 of 1 claimed",
+    "12 1 3; 9 1 12;": "Odd refused: bad choice or none at 9",
     "": "nothing is claimed",
     "\n\nhello;\n3 0 3;": "output:3:1: expected an identifier, found hello",
-    "3 0 3;\n\n 9 2 9;": "output:3:4: expected a winner, 0 or 1, found 2",
+    "3 0 3;\n\n 9 2 9;": "output:3:4: winner is not 0 or 1",
     "4 0;": "vertex 4: not in the game",
     "3 0 3; 9 1 9; 3 0 3;": "output:1:15: vertex 3: written twice",
     "\xff;": "output:1:1: expected an identifier, found \ufffd",
-    "paritysol 1; paritysol 2; 9 1 4;": "Odd refused: no choice, or a bad one, at 9",
+    "paritysol 1; paritysol 2; 9 1 4;": "Odd refused: bad choice or none at 9",
     "won by odd: 9->9\nwon by even: 12 3->3": "Even settled 2, of which 2 of 2 claimed; "
     "Odd settled 1, of which 1 of 1 claimed",
 }  # fmt: skip
@@ -112,7 +113,7 @@ class Referee(Boards):
         )
         wanted = [
             "Odd settled 2, of which 1 of 1 claimed",
-            "Even refused: 3 is settled for the other player; Odd refused: all of it is settled already",
+            "Even refused: 3 is lost; Odd refused: all of it is settled already",
         ]
         self.assertEqual(([it[3] for it in lines], left), (wanted, 1))
 
@@ -501,20 +502,12 @@ class Library(Boards):
         # reading takes 10 ms, a byte of 200 more 0.1 ms, and so 5 ms are for the 50 bytes of the solution
         took = {"verify": 10, "tidy": 30, "solve": 60}
         sizes = {"tidy": 200, "solve": 50}
-        row = self.row(took, sizes, solve=(0, 0, 0, 49.5), known=(0, 0, 0, 54), make=(0, 0, 0, 9))
-        self.assertEqual(row, ["45.0", "49.5 (1.10)", "54.0 (1.20)", "9.0 (0.20)"])
-
-    def row(self, took, sizes, **ran):
-        bench = self.bench.Bench.__new__(self.bench.Bench)
-        bench.program, bench.runs, bench.wrong, last = "program", 3, 0, []
-
-        def whole(program, *words, status=0, **_):
-            last.append(words[0])
-            return -1, took[words[0]], ""
-
-        bench.whole, bench.size = whole, lambda: sizes[last[-1]]
-        bench.in_library = lambda game, mode: ran[mode]
-        return bench.row("game")
+        bench, last = self.bench.Bench.__new__(self.bench.Bench), []
+        bench.program, bench.runs = "program", 3
+        bench.took = lambda _, *words, **__: last.append(words[0]) or (took[words[0]], "")
+        bench.size = lambda: sizes[last[-1]]
+        bench.in_library = lambda game, mode: {"solve": 49.5, "known": 54, "make": 9}[mode]
+        self.assertEqual(bench.row("game"), ["45.0", "49.5 (1.10)", "54.0 (1.20)", "9.0 (0.20)"])
 
     def test_each_mode_solves_random_games(self):
         library = self.bench.built(embed.ARCHIVES[0])

@@ -1,18 +1,8 @@
 #!/usr/bin/env python3
 r"""Compares what a built program prints, byte by byte, and its status: tests/cli.py [PROGRAM] [-k WORD]
 
-A case is a file of tests/cli whose name says the fact that it shows. The text before its first section is a note. A section
-begins with a line '-- NAME':
-    args            the words of each run, a line for each, as a shell reads them; none: one run without words
-    file PATH       a file in the folder that the program runs in
-    stdin           none: nothing
-    stdout          the exact output; where it occurs more than once, one of them
-    stderr          the exact text on standard error; where it occurs more than once, one for each run; none: nothing
-    status          none: 0
-Texts are ASCII with the escapes of Python's bytes: \xff is a byte, and a backslash at the end of a line leaves its line feed out.
-
-The other tests are what no file of a case can hold: devices that fail, wait or give much; games at the limits and past them;
-and each byte at places of games and solutions, compared with the definitions of plain.py.
+tests/README.md says what a file of tests/cli is. Its text before the first section is a note; `stdout` more than once is one of
+them, and `stderr` one for each run. Texts are ASCII with the escapes of Python's bytes, as \xff.
 """
 
 import concurrent.futures

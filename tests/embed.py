@@ -176,7 +176,7 @@ class Embed(unittest.TestCase):
         self.assertEqual(len(declared), 23)
 
     def test_the_manual_page_has_the_calls_and_structs_of_the_header(self):
-        page = common.text_of("docs", "man3", "pgboard.3")
+        page = common.text_of("packaging/man/pgboard.3")
         # (words in turns bold and slanted; what is in quotes is one)
         lines = [
             "".join(shlex.split(line[4:]))
@@ -194,7 +194,6 @@ class Embed(unittest.TestCase):
         self.assertEqual(set(re.findall(r"struct \w+ \{[^}]*\};", shown)), structs)
         names = {re.search(r"(pgboard_\w+)\(", it)[1] for it in calls}
         self.assertEqual(set(re.findall(r"\bpgboard_\w+", page.split(".SH LIBRARY")[0])), names)
-        self.assertEqual({it.stem for it in (common.ROOT / "docs/man3").iterdir()}, {*names, "pgboard"})
 
     def test_the_versions_are_the_programs(self):
         found = dict(re.findall(r"(?m)^#define PGBOARD_VERSION_(\w+) (\d+)$", HEADER))

@@ -38,9 +38,9 @@ source $argv[1]
 complete -C "$argv[2..]"
 """
 SHELLS = {
-    "bash": ["bash", "-c", BASH, common.ROOT / "completions/pgboard.bash"],
-    "zsh": ["zsh", "-f", "-c", ZSH, common.ROOT / "completions/_pgboard"],
-    "fish": ["fish", "--no-config", "-c", FISH, common.ROOT / "completions/pgboard.fish"],
+    "bash": ["bash", "-c", BASH, common.ROOT / "packaging/completions/pgboard.bash"],
+    "zsh": ["zsh", "-f", "-c", ZSH, common.ROOT / "packaging/completions/_pgboard"],
+    "fish": ["fish", "--no-config", "-c", FISH, common.ROOT / "packaging/completions/pgboard.fish"],
 }
 
 
@@ -63,37 +63,39 @@ class Help(unittest.TestCase):
     def test_the_man_page_is_as_it_is_made(self):
         maker = common.load(common.ROOT / "tools/help")
         made = maker.made(common.PROGRAM)
-        self.assertEqual(common.text_of("docs/man1/pgboard.1"), made, "run tools/help PROGRAM")
+        self.assertEqual(common.text_of("packaging/man/pgboard.1"), made, "run tools/help PROGRAM")
         # (a line that begins with a dot or a quote would be taken for a command)
         self.assertEqual(maker.roff("./pgboard\n'quoted"), "\\&./pgboard\n\\&'quoted")
 
     def test_the_man_page_has_each_flag(self):
-        page = common.text_of("docs/man1/pgboard.1").replace("\\-", "-").split(".SH OPTIONS\n")[1]
+        page = common.text_of("packaging/man/pgboard.1").replace("\\-", "-").split(".SH OPTIONS\n")[1]
         flags = {it for _, offered in offers() for it in offered if it.startswith("--")}
         self.assertEqual(flags, {*re.findall(r"(?m)^\.B\w? (?:-\w, )?(--[a-z]+)", page.split(".SH ")[0])})
 
-    def test_each_shell_offers_what_the_help_lists(self):
-        folder, home = common.make_folder(self), common.make_folder(self)
-        (folder / "game.pg").touch()
+    def setUp(self):
+        self.folder, home = common.make_folder(self), common.make_folder(self)
+        (self.folder / "game.pg").touch()
         (home / "pgboard").symlink_to(common.PROGRAM)
-        env = {"HOME": str(home), "PATH": f"{home}:{os.environ['PATH']}"}
-        for typed, wanted in offers():
-            for shell in common.installed(*SHELLS):
-                with self.subTest(shell, typed=typed):
-                    words = ["pgboard", *typed.split(" ")]
-                    status, out, err = common.run([*SHELLS[shell], *words], cwd=folder, env=env)
-                    said = {line.partition("\t")[0] for line in out.decode().split("\n")}
-                    self.assertEqual((status, err, said - {""}), (0, b"", wanted))
+        self.env = {"HOME": str(home), "PATH": f"{home}:{os.environ['PATH']}"}
 
-    def test_the_word_before_is_no_script(self):
-        folder = common.make_folder(self)
-        words = ["pgboard", "solve", "--x/y/;e touch made\ns/z", ""]
+    def check_offers(self, typed, wanted):
         for shell in common.installed(*SHELLS):
-            common.run([*SHELLS[shell], common.PROGRAM, *words[1:]], cwd=folder)
-            self.assertEqual(list(folder.iterdir()), [], shell)
+            with self.subTest(shell, typed=typed):
+                words = [*SHELLS[shell], "pgboard", *typed.split(" ")]
+                status, out, err = common.run(words, cwd=self.folder, env=self.env)
+                said = {line.partition("\t")[0] for line in out.decode().split("\n")}
+                self.assertEqual((status, err, said - {""}), (0, b"", wanted))
+
+    def test_each_shell_offers_what_the_help_lists(self):
+        for typed, wanted in offers():
+            self.check_offers(typed, wanted)
+
+    def test_the_word_before_is_no_script_and_no_pattern(self):
+        for word in ("--x/y/;e\ttouch\tmade\ns/z", "--worker.", "--w[a-z]*"):
+            self.check_offers(f"solve {word} ", {"game.pg"})
 
     def test_zsh_reads_its_file_for_this_command(self):
-        self.assertEqual(common.text_of("completions/_pgboard").splitlines()[0], "#compdef pgboard")
+        self.assertEqual(common.text_of("packaging/completions/_pgboard").splitlines()[0], "#compdef pgboard")
 
 
 if __name__ == "__main__":

@@ -298,12 +298,6 @@ class ModelCheck(scripts.Use, unittest.TestCase):
         names = ("variable", "nu_"), ("variable", "andy'")
         self.assertEqual(read("nu_ and andy'"), ("&&", *names))
 
-    def test_the_closure_of_a_relation_goes_on_to_the_end(self):
-        steps = {(v, v + 1) for v in range(6)}
-        self.assertEqual(closed(steps), set(itertools.combinations(range(7), 2)))
-        self.assertEqual(closed({*steps, (6, 0)}), set(itertools.product(range(7), repeat=2)))
-        self.assertEqual(after(steps, steps), {(v, v + 2) for v in range(5)})
-
     def test_a_comment_in_an_action(self):
         self.model.write_text('des (0, 2, 2)\n(0, "a", 1)\n(1, "c(1)|b", 0)\n')
         for formula, expected in {
@@ -530,16 +524,6 @@ class ModelCheck(scripts.Use, unittest.TestCase):
         picture = self.folder / "picture.svg"
         self.assertEqual(self.call(self.model, '<"a\x01b"> true', "--picture", picture)[0], 0)
         self.assertIn(r"a\x01b", "".join(xml.etree.ElementTree.parse(picture).getroot().itertext()))
-
-    def test_many_blanks_take_little_time(self):
-        def refuse(count):
-            self.model.write_text(f"des (0, 1, 1)\n(0,{' ' * count}x\n")
-            with self.assertRaisesRegex(self.script.Refused, ":2:1: not of the form"):
-                self.call(self.model, "true")
-
-        # (cubic time is found at the first size, and quadratic time at the second)
-        for size in (1_000, 20_000):
-            self.check_growth(refuse, size)
 
     def test_what_is_too_large(self):
         # (a chain is no nesting: a test has a tenth of the script's frames)

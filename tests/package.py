@@ -122,13 +122,8 @@ class Packaged(unittest.TestCase):
         cls.version = cls.unpacked.name.split("-")[1]
         # (all of them, where nothing else is)
         cls.root = cls.folder / "debian"
-        state = cls.root / "var/lib/dpkg"
-        for part in ("info", "updates"):
-            (state / part).mkdir(parents=True)
-        (state / "status").touch()
-        flags = ["--force-depends", "--force-not-root", "--force-script-chrootless", f"--root={cls.root}"]
-        env = {**os.environ, "PATH": f"{os.environ['PATH']}:/usr/sbin:/sbin", "LC_ALL": "C"}
-        done("dpkg", *flags, "--install", *map(cls.package, NEEDS), env=env)
+        for name in NEEDS:
+            done("dpkg-deb", "--extract", cls.package(name), cls.root)
 
     @classmethod
     def package(cls, name):
@@ -285,7 +280,7 @@ class Packaged(unittest.TestCase):
         self.assertEqual(got, (0, b"4 1024\n", b"pgboard: write fault\n"))
 
     def test_each_file_of_the_folder_is_that_of_the_tree(self):
-        places = {"share/doc/pgboard/": "", "include/": "include/", "share/man/": "docs/"}
+        places = {"share/doc/pgboard/": "", "include/": "include/"}
         compared = 0
         for path in files_in(self.unpacked):
             name = str(path.relative_to(self.unpacked))
@@ -294,13 +289,24 @@ class Packaged(unittest.TestCase):
             if there and there.exists():
                 compared += 1
                 self.assertEqual(path.read_bytes(), there.read_bytes(), name)
-        names = "include examples bindings/python/pgboard docs/*.md docs/benchmarks docs/pictures docs/man1 docs/man3"
-        pages_of_top = ["README.md", "LICENSE", "CHANGELOG.md"]
-        self.assertEqual(compared, len(self.tree.git("ls-files", *names.split(), *pages_of_top).split()))
+        names = common.load(common.ROOT / "package").PAGES
+        listed = [self.tree.git("ls-files", *map(":(glob){}".format, it)).split() for it in (names, ["include/*"])]
+        self.assertEqual(compared, sum(map(len, listed)))
         for name, paths in COMPLETIONS.items():
-            wanted = (common.ROOT / "completions" / name).read_bytes()
+            wanted = (common.ROOT / "packaging/completions" / name).read_bytes()
             for path in (self.unpacked / paths[0], self.root / "usr" / paths[1]):
                 self.assertEqual(path.read_bytes(), wanted, path)
+        for name in ("pgboard.1", "pgboard.3"):
+            page = self.unpacked / f"share/man/man{name[-1]}" / name
+            self.assertEqual(page.read_bytes(), (common.ROOT / "packaging/man" / name).read_bytes())
+        aliases = {it.stem: it.read_text() for it in (self.unpacked / "share/man/man3").iterdir()}
+        self.assertLessEqual(dict.fromkeys(EXPORTS, ".so man3/pgboard.3\n").items(), aliases.items())
+
+    def test_no_link_of_a_page_is_dead(self):
+        for folder in (self.unpacked, self.root / "usr"):
+            found = dict(pages.links(folder / "share/doc/pgboard"))
+            self.assertGreater(len(found), 200)
+            self.assertEqual([it for it, leads in found.items() if not leads], [])
 
     def test_an_example_and_the_command_of_the_folder_run(self):
         doc = self.unpacked / "share/doc/pgboard"
@@ -444,9 +450,13 @@ class Packaged(unittest.TestCase):
 
     def test_each_debian_package_declares_what_it_needs(self):
         self.assertEqual({it.name.split("_")[0] for it in self.dist.glob("*.deb")}, set(NEEDS))
+        files = []
         for name, needed in NEEDS.items():
             declared = done("dpkg-deb", "--field", self.package(name), "Depends")
             self.assertEqual(set(re.findall(r"(?:^|, )([a-z0-9-]+)", declared)), needed, declared)
+            lines = done("dpkg-deb", "--contents", self.package(name)).splitlines()
+            files += [it.split()[5] for it in lines if it[0] != "d"]
+        self.assertEqual(len(files), len({*files}), "a file is in two packages")
         # (the module takes the library of its own version alone)
         for bound in (r">= \S+", r"<< \S+\.1~"):
             self.assertRegex(declared, rf"libpgboard{ABI} \({bound}\)")
@@ -458,7 +468,7 @@ class Packaged(unittest.TestCase):
     def test_the_debian_packages_have_what_the_folder_has(self):
         """By name and contents: pages may be compressed, and the program is linked with Debian's C library."""
         others = {"pgboard", "pgboard.o", "pgboard.pc", "pgboardConfig.cmake", f"libpgboard.so.{self.version}"}
-        others |= {"NOTICES", "NOTICES.glibc", "LGPL-2.1.txt", "LICENSE", "CHANGELOG.md"}
+        others |= {"NOTICES", "NOTICES.glibc", "LGPL-2.1.txt"}
         # (a page of the manual that only names another one is a link there)
         manual = lambda top: {it.name.removesuffix(".gz") for it in top.glob("share/man/man?/*")}
         self.assertEqual(manual(self.root / "usr"), manual(self.unpacked))

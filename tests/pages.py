@@ -23,8 +23,8 @@ def pages(*patterns):
     return [str(it) for it in sorted(every) if not {".git", "out"} & set(it.parts)]
 
 
-def prose(page):
-    return BLOCK.sub("", common.text_of(page))
+def prose(text):
+    return BLOCK.sub("", text)
 
 
 # --- examples and links ---
@@ -52,9 +52,21 @@ def c_programs(text):
     return programs, next(it[2] for it in BLOCK.finditer(text) if it[1] == "sh" and " embed.c " in it[2])
 
 
-def anchors(page):
-    heads = re.findall(r"(?m)^#+ +(.*)$", prose(page))
+def anchors(text):
+    heads = re.findall(r"(?m)^#+ +(.*)$", prose(text))
     return {re.sub(r"[^\w\- ]", "", it.lower()).replace(" ", "-") for it in heads}
+
+
+def links(folder):
+    """Each link of the pages of a folder that leads to no other site, with its page, and whether it leads somewhere."""
+    for page in sorted(it for it in folder.glob("**/*.md") if not {".git", "out"} & {*it.relative_to(folder).parts}):
+        for link in LINK.findall(prose(page.read_text())):
+            path, _, anchor = link.partition("#")
+            to = page.parent / path if path else page
+            if not re.match(r"[a-z]+:", link):
+                is_there = to.exists() and to.resolve().is_relative_to(folder.resolve())
+                at = not anchor or to.suffix != ".md"
+                yield f"{page.relative_to(folder)}: {link}", is_there and (at or anchor in anchors(to.read_text()))
 
 
 def ran(case, commands):
@@ -85,14 +97,18 @@ class Examples(unittest.TestCase):
                     self.assertEqual(ran(self, commands)[0], wanted, commands)
 
     def test_each_link_leads_somewhere(self):
-        for page in pages("**/*.md"):
-            for link in LINK.findall(prose(page)):
-                path, _, anchor = link.partition("#")
-                to = (common.ROOT / page).parent / path if path else common.ROOT / page
-                if not re.match(r"[a-z]+:", link):
-                    with self.subTest(page, link=link):
-                        self.assertTrue(to.exists())
-                        self.assertTrue(not anchor or to.suffix != ".md" or anchor in anchors(to))
+        for link, leads in links(common.ROOT):
+            with self.subTest(link):
+                self.assertTrue(leads)
+
+    def test_each_link_of_a_package_leads_somewhere(self):
+        """In a folder with the pages that ./package copies; package.py looks at what it has made."""
+        script, folder = common.load(common.ROOT / "package"), common.make_folder(self)
+        for path in (it for pattern in script.PAGES for it in common.ROOT.glob(pattern)):
+            script.copy(path, folder / path.relative_to(common.ROOT))
+        every = dict(links(folder))
+        self.assertGreater(len(every), 200)
+        self.assertEqual([it for it, leads in every.items() if not leads], [])
 
 
 # --- faults ---
@@ -160,7 +176,8 @@ class Faults(unittest.TestCase):
 
 # --- help ---
 
-PAGES = ["docs/CLI.md", "docs/man1/pgboard.1"]
+# (tools/help makes the man page, and tests/help.py compares it)
+PAGE, MAN = "docs/CLI.md", "packaging/man/pgboard.1"
 # of the script ./pgboard
 OF_SCRIPT = {"--unproved", "--rebuild", "--install"}
 FLAG = r"(?<![\w-])--[a-z][a-z-]*"
@@ -185,36 +202,13 @@ def line_of(command, text):
     return " ".join(filter(None, ["pgboard", command, *(f"[{it}]" for it in flags_of(text)), *files]))
 
 
-def man_page():
-    """The parts of the man page as plain text, by heading; a line `.TP` or `.br` stays."""
-    lines = []
-    for line in common.text_of("docs/man1/pgboard.1").replace("\\-", "-").splitlines():
-        macro, _, words = line.partition(" ")
-        if re.fullmatch(r"\.[RBI]{2}", macro):
-            # a macro of two letters writes its words without blanks between
-            line = "".join(shlex.split(words))
-        elif macro in (".B", ".I"):
-            line = words
-        lines.append(line)
-    parts = re.split(r'(?m)^\.SH "?([A-Z ]+)"?$', "\n".join(lines))
-    return dict(zip(parts[1::2], parts[2::2]))
-
-
-def synopsis_of(page):
-    if page.endswith(".1"):
-        lines = " ".join(man_page()["SYNOPSIS"].split()).split(" .br ")
-        return set(lines) - {"pgboard [COMMAND] --help"}
+def synopsis():
     # (the first block of the page)
-    lines = re.sub(r"\n {2,}\b", "  ", BLOCK.search(common.text_of(page))[2]).splitlines()
+    lines = re.sub(r"\n {2,}\b", "  ", BLOCK.search(common.text_of(PAGE))[2]).splitlines()
     return {re.split(r" {2,}", line)[0] for line in lines}
 
 
 def said_by(page):
-    if page.endswith(".1"):
-        parts = man_page()
-        commands = re.findall(r"(?m)^\.TP\n([a-z]+)", re.sub(r"(?m)^\.BI ", "", parts["COMMANDS"]))
-        statuses = re.findall(r"(?m)^\.TP\n([0-9])\n(.*)$", parts["EXIT STATUS"])
-        return set(commands), set(re.findall(FLAG, "\n".join(parts.values()))), statuses
     # flags of scripts, of the tests and of ./pgboard are none of the program's
     others = r"\.py\b|bindings/python/|bench/|tests/|\brt\b|\bsed\b|\bcurl\b|\bgit\b"
     text = "\n".join(it for it in common.text_of(page).splitlines() if not re.search(others, it))
@@ -274,21 +268,12 @@ class HelpAgrees(unittest.TestCase):
                 said = re.findall(r"(?m)^ +(--\w+) <N> .*?(\d+) to (\d+)\b.* \[default: (\d+)\]$", short)
                 wanted = [it for it in table if it[0] in flags_of(short)]
                 self.assertEqual([(f"{flag} N", *numbers) for flag, *numbers in said], wanted)
-        of_man = r"(?m)^\.TP\n(--\w+ N)\n(?:(?!\.TP).*\n)*?.*\b(\d+) to (\d+), and (\d+) when absent"
-        self.assertEqual(re.findall(of_man, man_page()["OPTIONS"]), table)
         text = self.helps["trace"] + common.text_of("docs/TRACE.md")
         self.assertEqual(re.findall(r"dominions? \w+ at most (\d+) vertices", text), ["4", "4"])
 
-    def test_each_synopsis(self):
-        wanted = {line_of(name, text) for name, text in self.helps.items()}
-        for page in PAGES:
-            with self.subTest(page):
-                self.assertEqual(synopsis_of(page), wanted)
-
-    def test_commands_flags_and_statuses_of_each_page(self):
-        for page in PAGES:
-            with self.subTest(page):
-                self.assertEqual(said_by(page), (self.commands, self.flags, self.statuses))
+    def test_the_page_of_the_command_line(self):
+        self.assertEqual(synopsis(), {line_of(name, text) for name, text in self.helps.items()})
+        self.assertEqual(said_by(PAGE), (self.commands, self.flags, self.statuses))
         commands, flags, _ = said_by("README.md")
         self.assertEqual(commands, self.commands)
         self.assertLessEqual(flags, self.flags)
@@ -296,12 +281,15 @@ class HelpAgrees(unittest.TestCase):
     def test_the_lines_of_a_trace(self):
         table = re.findall(r"(?m)^\| `((?:[a-z]+|ID) [A-Z][A-Z ]*;?)` \|", common.text_of("docs/TRACE.md"))
         self.assertEqual(len(table), 6)
-        self.assertEqual(set(re.findall(r"(?m)^\.TP\n(.*)$", man_page()["TRACE FORMAT"])), set(table))
+        part = common.text_of(MAN).partition('.SH "TRACE FORMAT"')[2].partition(".SH ")[0]
+        lines = re.findall(r"(?m)^\.TP\n\.[BI]{2} (.*)$", part)
+        # (a macro of two letters writes its words without blanks between)
+        self.assertEqual({"".join(shlex.split(it)) for it in lines}, {*table})
 
     def test_the_version(self):
         ((printed, kit),) = re.findall(r"^pgboard (\S+)\nkit: (.*)\n", help_of("--version"))
         self.assertEqual([printed], re.findall(r"(?m)^## ([0-9][0-9.]*)", common.text_of("CHANGELOG.md"))[:1])
-        self.assertEqual([printed], re.findall(r'"pgboard ([0-9.]+)"', common.text_of("docs/man1/pgboard.1")))
+        self.assertEqual([printed], re.findall(r'"pgboard ([0-9.]+)"', common.text_of(MAN)))
         self.assertEqual([printed], re.findall(r"(?m)^version: (.*)$", common.text_of("CITATION.cff")))
         self.assertEqual(kit, common.kit())
         self.assertEqual([kit], re.findall(r"the kit's line `([^`]*)`", common.text_of("docs/INSTALL.md")))
@@ -319,14 +307,6 @@ def is_in(code, file):
     uses = [it for it in lines if re.match(r"(?:ghost )?use ", it)]
     wanted = [it for it in lines if it not in uses]
     return all(f"\n{it}\n" in there for it in uses) and bool(wanted) and "\n".join(["", *wanted, ""]) in there
-
-
-class Judge(unittest.TestCase):
-    def test_what_is_in_a_file(self):
-        self.assertTrue(is_in("use b;\na;\nc;\n", "use b;\nx;\n    a;\n\n    c;\n"))
-        for code in ("a;\nb;\n", "a;\nc;\n", "use d;\na;\n", "use a;\n", ""):
-            with self.subTest(code):
-                self.assertFalse(is_in(code, "use a;\na;\nassert!(x);\nb;\nc;\n"))
 
 
 def tests_of(crate):

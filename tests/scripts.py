@@ -103,12 +103,13 @@ class Use:
         return status, out.decode(errors="replace"), err.decode()
 
     def check_growth(self, call, size):
-        took = []
-        for count in (size, 4 * size):
-            begun = time.process_time()
-            call(count)
-            took.append(time.process_time() - begun)
-        self.assertLess(took[1], 10 * took[0] + 0.2)
+        """That a call takes less than ten times as long for four times as much, once it takes long enough."""
+        took = before = 0
+        while took < 0.3 or not before:
+            before, begun = took, time.process_time()
+            call(size)
+            took, size = time.process_time() - begun, 4 * size
+        self.assertLess(took, 10 * before)
 
     def check_damaged(self, call, text):
         """That the script answers or refuses what a damaged text has, and fails in no other way."""

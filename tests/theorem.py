@@ -1,5 +1,5 @@
 #!/usr/bin/env python3
-"""Holds docs/THEOREM.md, PROVED.md and ARCHITECTURE.md to the sources: tests/theorem.py"""
+"""Holds docs/THEOREM.md, PROVED.md, CONTRACTS.md and ARCHITECTURE.md to the sources: tests/theorem.py"""
 
 import collections
 import graphlib
@@ -13,45 +13,10 @@ theorem = common.load(common.ROOT / "tools" / "theorem")
 THEOREM = common.text_of("docs/THEOREM.md")
 
 
-def exported():
-    """Each file of src with the public names that its crate's lib.rt exports from it; None where all are."""
-    for crate in theorem.CRATES:
-        lib = theorem.read(f"{crate}/src/lib.rt")
-        names = set(re.findall(r"\w+", " ".join(re.findall(r"pub use \w+::\{?([^;}]+)\}?;", lib))))
-        whole = [f"{crate}/src/{it}.rt" for it in re.findall(r"pub mod (\w+);", lib)]
-        yield from ((path, None if path in whole else names) for path in theorem.files(f"{crate}/src/**/*.rt"))
-
-
-def public_calls():
-    for path, names in exported():
-        for name, call in theorem.calls(path).items():
-            if call.is_export or call.is_public and (names is None or name.split("::")[0] in names):
-                yield path, name, call.contract
-
-
 def rows_of(page, columns):
     """The cells of each row of a page's tables of so many columns, without the heads."""
     rows = [it.strip("| ").split(" | ") for it in page.replace("|---", "").splitlines() if it.startswith("| ")]
-    return [it for it in rows if len(it) == columns and it[0] not in ("Promise", "Part", "Sentence", "Crate")]
-
-
-def by_file(cell):
-    path = None
-    for name in re.findall(r"`([^`]+)`", cell):
-        if "/" in name:
-            path = name
-        else:
-            yield path, name
-
-
-def calls_of(cell):
-    found = []
-    for path, name in by_file(cell):
-        if found and found[-1][0] == path and "::" not in name and name not in theorem.calls(path):
-            found[-1][2].append(name)
-        else:
-            found.append((path, name, []))
-    return found
+    return [it for it in rows if len(it) == columns and it[0] not in ("Promise", "Sentence", "Crate")]
 
 
 class Theorem(unittest.TestCase):
@@ -64,18 +29,16 @@ class Theorem(unittest.TestCase):
             self.assertNotRegex(theorem.Pieces.LINE.sub("", said), "`[^`]* [^`]*`", sentence)
 
     def test_the_headline(self):
-        """README says it too; each part of it has a row on THEOREM.md and on PROVED.md."""
+        """README says it too, and each part of it has a row on THEOREM.md."""
         (said,) = re.findall(r"(?m)^\*\*(Whenever .*)\*\*$", THEOREM)
         self.assertIn(f"**{said}**", common.text_of("README.md"))
         board = THEOREM.split("\n## Board\n")[1].split("\n## ")[0]
         parts = [first for first, _ in rows_of(board, 2)]
         self.assertRegex(said, rf"\A{'(?:, |; |; and )'.join(map(re.escape, parts))}\.\Z")
-        shown = common.text_of("docs/PROVED.md").split("\n## The headline, part by part\n")[1]
-        self.assertEqual([it[0] for it in rows_of(shown, 4)], [parts[0].lower(), *parts[1:]])
 
     def test_what_no_public_contract_reaches_is_private(self):
-        texts = [(path, contract) for path, _, contract in public_calls()]
-        for path, names in exported():
+        texts = [(path, call.contract) for path, _, call in theorem.public_calls()]
+        for path, names in theorem.exported():
             texts += [(path, line) for owner, line in theorem.views(path) if names is None or owner in names]
         definitions = theorem.Definitions()
         reached, _ = definitions.reached(name for it in texts for name in theorem.names_in(*it))
@@ -85,41 +48,35 @@ class Theorem(unittest.TestCase):
 
 
 class Proved(unittest.TestCase):
-    """A row of docs/PROVED.md: a promise, definitions with their files, calls with clauses, and wrong bodies.
+    """A row of docs/PROVED.md: a promise, and calls. `read_game` `fault` is one clause, `read_game` has all of its."""
 
-    `Board::post` is `post` of an implementation of Board. A call with no clause has one without a name.
-    """
+    ROWS = rows_of(common.text_of("docs/PROVED.md"), 2)
+    # of those that promise something; the rest of a trait's implementation has the trait's contract
+    CALLS = {name: (path, it) for path, name, it in theorem.public_calls() if "ensures" in it.contract}
 
-    ROWS = rows_of(common.text_of("docs/PROVED.md"), 4)
-
-    def test_each_row(self):
+    def test_each_row_names_calls_and_their_clauses(self):
         self.assertGreater(len(self.ROWS), 40)
-        for promise, definitions, called, edits in self.ROWS:
+        self.assertEqual(len(self.CALLS), sum("ensures" in it.contract for *_, it in theorem.public_calls()))
+        shown = set()
+        for promise, calls in self.ROWS:
             with self.subTest(promise):
-                for path, name in by_file(definitions):
-                    declared = rf"(?m)^(?:\w+ )?pub (?:record )?{re.escape(name)}(?![\w?!'])"
-                    self.assertRegex(theorem.read(path or ""), declared)
-                self.assertTrue(calls_of(called))
-                for path, name, clauses in calls_of(called):
-                    call = theorem.calls(path)[name]
-                    self.assertTrue(call.is_public)
-                    self.assertLessEqual(set(clauses or [""]), set(call.clauses("ensures")))
-                if edits == "a statement without a body":
-                    self.assertTrue(all(path.endswith("laws.rt") for path, *_ in calls_of(called)))
-                else:
-                    self.judge_edits(re.findall(r"`([^`]+)`", edits), definitions + called)
+                self.assertRegex(calls, r"\A`[\w:]+`(?:,? `[\w:]+`)*\Z")
+                for name, *clauses in (re.findall(r"[\w:]+", it) for it in calls.split(", ")):
+                    shown.add(name)
+                    self.assertLessEqual(set(clauses), set(self.CALLS[name][1].clauses("ensures")))
+        self.assertEqual(shown, set(self.CALLS))
 
-    def judge_edits(self, edits, cells):
-        crates = set(re.findall(r"`(\w+)/", cells))
-        self.assertTrue(edits)
-        for edit in edits:
-            self.assertTrue(any(theorem.read(f"{crate}/must-fail/{edit}") for crate in crates), edit)
-
-    def test_each_public_call_has_a_row(self):
-        shown = {(path, name) for row in self.ROWS for path, name, _ in calls_of(row[2])}
-        # the rest of a trait's implementation has the trait's contract
-        promising = {(path, name) for path, name, contract in public_calls() if "ensures" in contract}
-        self.assertEqual(promising - shown, set())
+    def test_each_row_has_a_wrong_body(self):
+        """Or it is a statement without a body. Each edit of the libraries is on the page of contracts."""
+        parts = re.split(r"(?m)^### ", common.text_of("docs/CONTRACTS.md"))
+        turned = {part.split("\n")[0]: (re.findall(r"`(\w+\.edit)`", part), "- Wrong" in part) for part in parts}
+        for promise, calls in self.ROWS:
+            with self.subTest(promise):
+                names = [it.split("`")[1] for it in calls.split(", ")]
+                laws = all(self.CALLS[it][0].endswith("laws.rt") for it in names)
+                self.assertTrue(laws or any(turned[it][1] for it in names))
+        every = {it.split("/")[-1] for crate in theorem.CRATES for it in theorem.files(f"{crate}/must-fail/*.edit")}
+        self.assertEqual(set().union(*(edits for edits, _ in turned.values())), every)
 
     def test_the_answers_to_a_caller_in_c_are_those_of_the_header(self):
         named = re.findall(r"`(PGBOARD_\w+)(\.\.)?`", common.text_of("docs/TRUST.md"))
@@ -133,7 +90,7 @@ class Architecture(unittest.TestCase):
 
     def test_each_layer_takes_the_functions_of_its_row(self):
         layers = [*theorem.CRATES, "pgboard_program"]
-        rows = {crate.strip("`"): taken for crate, _, taken in rows_of(self.PAGE, 3)}
+        rows = {re.search(r"\w+", crate)[0]: taken for crate, _, taken in rows_of(self.PAGE, 3)}
         for crate in layers:
             with self.subTest(crate):
                 code = "\n".join(map(theorem.read, theorem.files(f"{crate}/src/**/*.rt")))
@@ -145,6 +102,12 @@ class Architecture(unittest.TestCase):
                 self.assertLessEqual({it.split("::")[0] for it in named - functions}, taken)
                 for method in (it.split("::")[1] for it in named if "::" in it):
                     self.assertRegex(code, rf"(?:\.|::){method}\(")
+
+    def test_each_file_of_the_sources_is_on_the_way(self):
+        shown = set(re.findall(r"`(pg\w+/[\w/]+)`", self.PAGE))
+        every = {it for crate in [*theorem.CRATES, "pgboard_program"] for it in theorem.files(f"{crate}/src/**/*.rt")}
+        names = {it.replace("/src/", "/").removesuffix(".rt") for it in every}
+        self.assertEqual(shown, {it for it in names if not it.endswith("/lib")})
 
     def test_no_ring_of_modules(self):
         """The modules of a crate import one another in an order, so that each can be read after those it names."""

@@ -206,7 +206,7 @@ class Convert(Use, unittest.TestCase):
             (self.script, ["convert", "--solution"], ("", "won by odd: 1", "0 0"), " \n0;,\"#{[>a-"),
             (self.script, ["draw", EXAMPLES / "requests.pg", "--trace"], ("", "journal "), " \n0;ae"),
             (check, [model], ("", "[a"), ' \n0a("%!.*|&<['),
-            (check, ["-", "true"], ("", 'des (0,1,1)\n(0,"'), ' \n0a(",'),
+            (check, ["-", "true"], ("", "des (0,1,1)\n(0,", 'des (0,1,1)\n(0,"'), ' \n0a(",'),
         ):
             for begin, byte in itertools.product(begins, alphabet):
                 with self.subTest(words=words, begin=begin, byte=byte):
@@ -247,7 +247,7 @@ class Convert(Use, unittest.TestCase):
         wanted = [5, 7], [0, 1], [1, 0], [0, 1, 2], [1, 1]
         self.assertEqual(tuple(map(list, found)), wanted)
         self.assertEqual([it.typecode for it in found[1:]], ["B", "I", "I", "I"])
-        with self.assertRaisesRegex(ValueError, "game:1:5: expected an owner, 0 or 1, found 2$"):
+        with self.assertRaisesRegex(ValueError, "game:1:5: owner is not 0 or 1$"):
             read_game(self.file("game", "0 0 2 0;"))
         with self.assertRaises(OSError):
             read_game("/no/such file")
@@ -631,7 +631,9 @@ class Solve(Use, unittest.TestCase):
         for seed in range(200):
             chance = random.Random(seed)
             game = random_games.random_game(chance)
-            path, id = self.file("game.pg", plain.written_game(game)), chance.choice(list(game))
+            # (a text with a comment is read by the command, and another by pgboard)
+            text = plain.written_game(game) + "# all\n" * (seed % 2)
+            path, id = self.file("game.pg", text), chance.choice(list(game))
             with self.subTest(game=game):
                 status, out = self.call(path)
                 self.assertEqual((status, plain.written_fault(game, out.encode())), (0, None))
@@ -642,7 +644,7 @@ class Solve(Use, unittest.TestCase):
                 said = plain.verdict(game, wrong)
                 solution = self.file("game.sol", lines_of(wrong))
                 self.assertEqual(self.word("verify", path, solution), (int(said != "ok\n"), said))
-                known = {id: row for id, row in wrong.items() if chance.random() < 0.7}
+                known = {id: wrong[id] for id in chance.sample([*wrong], len(wrong)) if chance.random() < 0.7}
                 kinds.add(self.takes_what_is_known(game, path, known))
         self.assertEqual(len(kinds), 5, kinds)
 
@@ -779,20 +781,17 @@ class Program(unittest.TestCase):
         self.assertEqual((status, out, err[:41]), (4, b"", b"the Python package pgboard is not here: i"))
 
 
-class Refused(unittest.TestCase):
+class Refused(Use, unittest.TestCase):
     """What is refused, of a game's or a solution's text with the place: the whole of standard error, and the
     status.
     """
 
     def test_each_row(self):
-        folder = common.make_folder(self)
         self.addCleanup(os.chdir, os.getcwd())
         os.chdir(common.ROOT)
-        file = str(folder / "file")
-        files = {"FILE": file, "MODEL": str(folder / "model.aut"), "TRACE": str(folder / "trace")}
-        pathlib.Path(files["MODEL"]).write_text(scripts.MODEL)
         trace = common.program("trace", "--workers", "1", EXAMPLES / "requests.pg")[1]
-        pathlib.Path(files["TRACE"]).write_bytes(trace)
+        file = self.file("file", "")
+        files = {"FILE": file, "MODEL": self.file("model.aut", MODEL), "TRACE": self.file("trace", trace)}
         mains = {it: common.load(EXAMPLES / f"{it}.py") for it in ("modelcheck", "synthesise")}
         for script, words, place, said, text in scripts.rows_of("refused.txt"):
             with self.subTest(script, words=words, text=text):
@@ -802,8 +801,8 @@ class Refused(unittest.TestCase):
                 pathlib.Path(file).write_bytes(given)
                 words = [{**files, "TEXT": text}.get(it, it) for it in shlex.split(words)]
                 name = script if script in mains else "pgboard"
-                first = [] if script in mains else [script]
-                status, out, err = self.ended(name, mains.get(script, scripts.WORDS), [*first, *words], given)
+                self.name, self.first = script, [script] * (script not in mains)
+                status, out, err = self.ended(name, mains.get(script, self.script), words, given)
                 lines = [it for it in err.splitlines() if "size of the game" not in it]
                 place = place.replace("FILE", file).replace("TRACE", files["TRACE"])
                 self.assertEqual(out, "")
@@ -822,16 +821,11 @@ class Refused(unittest.TestCase):
 
     def ended(self, name, script, words, given):
         try:
-            return scripts.called(script, words, given)
+            return scripts.called(script, [*self.first, *words], given)
         except script.Refused as fault:
             return fault.status, "", fault.said(name)
         except (SystemExit, OSError):
-            first = [BINDINGS / "pgboard"] if name == "pgboard" else [EXAMPLES / f"{name}.py"]
-            env = {**os.environ, "PGBOARD": shlex.quote(str(common.PROGRAM))}
-            status, out, err = common.run(
-                [sys.executable, "-B", *first, *words], given, cwd=common.ROOT, env=env
-            )
-            return status, out.decode(), err.decode()
+            return self.run_script(*words, given=given)
 
     def marked(self, row, column, text):
         line = text.split("\n")[row - 1] if text.strip() else ""

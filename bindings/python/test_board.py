@@ -10,7 +10,6 @@ import pathlib
 import pickle
 import sys
 import threading
-import time
 import unittest
 from array import array
 from unittest import mock
@@ -19,8 +18,6 @@ import pgboard
 from pgboard import library
 from test_pgboard import CSR, SOLVED, TWO, Tests
 
-# numbers that are no vertex of a small game, some of them beyond what C has
-FAR = [-1, 9, 256, 2**31, 2**32 - 2, 2**32 - 1, 2**32, 2**32 + 1, 2**40]
 NONE = pgboard.NO_CHOICE
 
 
@@ -91,26 +88,20 @@ class Boards(Tests):
 
         true, found = self.replaced_library(Slow()), []
         slow, other = pgboard.Board(*TWO), pgboard.Board(*TWO)
-        threads = [self.begun(slow.finish)]
+        threads = [self.begun(slow.finish)[0]]
         self.assertTrue(reached.wait(60))
         # another board is free, and this one is not
-        free = self.begun(lambda: other.post(0, {0: 0}))
+        free, _ = self.begun(lambda: other.post(0, {0: 0}))
         free.join(60)
         self.assertFalse(free.is_alive())
         reads, posts = lambda: found.append(slow.settled), lambda: found.append(slow.post(0, {0: 0}))
-        threads += map(self.begun, [reads, posts, slow.close])
-        ends = time.monotonic() + 20
-        while len(slow._users) < 4:
-            self.assertLess(time.monotonic(), ends)
-            time.sleep(0.001)
+        threads += [self.begun(it)[0] for it in (reads, posts, slow.close)]
         threads[-1].join(0.3)
         self.assertEqual((found, [it.is_alive() for it in threads], other.settled), ([], [True] * 4, 1))
-        # (`finish` lets these go first)
-        self.assertEqual(slow._users, {it.ident for it in threads})
         libc.pthread_mutex_unlock(lock)
         for it in threads:
             it.join(60)
-        self.assertEqual(([it.is_alive() for it in threads], slow._users), ([False] * 4, set()))
+        self.assertEqual([it.is_alive() for it in threads], [False] * 4)
 
     def test_an_interrupt_as_a_turn_begins(self):
         """It leaves no thread for which `finish` would wait."""
@@ -131,17 +122,6 @@ class Boards(Tests):
             with mock.patch("time.sleep") as sleep:
                 board.finish()
             self.assertFalse(sleep.called, count)
-
-    def begun(self, call):
-        thread = threading.Thread(target=self.quietly, args=(call,), daemon=True)
-        thread.start()
-        return thread
-
-    def quietly(self, call):
-        try:
-            call()
-        except (pgboard.Closed, pgboard.Stale):
-            pass
 
     def test_what_changes_during_a_call_has_no_effect(self):
         claim = [array("I", [1]), array("I", [1])]
@@ -177,9 +157,7 @@ class Boards(Tests):
             self.fail("a closed board was entered")
         calls = [
             lambda: board.post(0, {0: 0}), lambda: board.post(7, {}), lambda: board.state(),
-            lambda: board.post_arrays(
-                2**40, b"", b""
-            ), lambda: board.winner(0), lambda: board.winner(9), lambda: board.choice(0),
+            lambda: board.post_arrays(9, b"", b""), lambda: board.winner(0), lambda: board.winner(9), lambda: board.choice(0),
             lambda: board.settled, lambda: board.unsettled(), lambda: len(board.entries),
             lambda: board.entries[0], lambda: entries[-1], lambda: board._entry(0), lambda: list(entries),
             lambda: board.finish(), lambda: board.solution(),
@@ -291,15 +269,18 @@ class Boards(Tests):
                 self.says(f"a vertex {whole} {kind}", call, wrong)
         self.says(f"steps {whole} float", board.finish, 1.5)
         for worker in (-1, 2**32, 2**64):
-            said = f"worker {worker} is not from 0 to 4294967295"
-            self.says(said, board.post, 0, {0: 0}, worker, error=ValueError)
+            said = f"{{}}: {worker} is out of range".format
+            self.says(said("worker"), board.post, 0, {0: 0}, worker, error=ValueError)
+            self.says(said("player"), board.post, worker, {0: 0}, error=ValueError)
+            self.says(said(r"vertices\[0\]"), board.post, 0, {worker: 0}, error=ValueError)
+            self.says(said(r"choices\[0\]"), board.post, 0, {0: worker}, error=ValueError)
         for v in (-1, 2, 2**32):
             for call in (board.winner, board.choice):
                 self.says(f"{v} is no vertex", call, v, error=IndexError)
-        for player in (2, 255, 2**32 - 1, 2**32, 2**32 + 1, -1, -(2**32), 2**70):
+        for player in (2, 255, 2**32 - 1):
             self.refused(pgboard.BadPlayer, player, 0, board.post, player, {0: 0})
             self.refused(pgboard.BadPlayer, player, 0, board.post_arrays, player, b"", [1])
-        for far in FAR:
+        for far in (9, 256, 2**31, 2**32 - 2):
             # (a vertex, a choice that the player needs, and one that he may not have)
             for player, claim in ((0, {far: None}), (0, {0: far}), (1, {0: far})):
                 self.refused(pgboard.BadShape, 0, 0, board.post, player, claim)

@@ -22,12 +22,15 @@ from pgboard.command import engine
 
 LIBRARY = {"PGBOARD_LIBRARY": pgboard.library.path_of_library()}
 # the command, whose search goes on for ever, since no slice of the recursion takes a step
-ENDLESS = f"""import _signal, sys
+ENDLESS = f"""import _signal, os, sys
 _signal.signal(_signal.SIGINT, _signal.SIG_DFL)
 sys.path.insert(0, {str(scripts.BINDINGS)!r})
 from pgboard import library
 take = library.Handle.advance
-library.Handle.advance = lambda handle, steps: take(handle, 0)
+def advance(handle, steps):
+    open(os.environ.get("BEGUN", os.devnull), "w").close()
+    return take(handle, 0)
+library.Handle.advance = advance
 from pgboard.command import run
 from pgboard.command.words import main
 run("pgboard", main)
@@ -49,11 +52,8 @@ class Command(uses.Solve):
         engine.engine.cache_clear()
         cls.addClassCleanup(engine.engine.cache_clear)
 
-    def run_command(self, word, *given, **env):
-        return self.texts_of([*scripts.command_of(word), *given], **env)
-
-    def texts_of(self, command, **env):
-        status, *texts = common.run(command, env={**os.environ, **env})
+    def texts_of(self, command):
+        status, *texts = common.run(command)
         return (status, *(it.decode() for it in texts))
 
     def hard(self):
@@ -112,18 +112,25 @@ class Command(uses.Solve):
 
     def test_a_library_that_is_named_comes_before_a_program(self):
         """And that comes before a library which is only found."""
-        words = "winner", "--vertex", "0", self.file("game.pg", "0 0 0 0;")
-        self.assertEqual(self.run_command(*words, PGBOARD="/nowhere"), (0, "Even wins vertex 0\n", ""))
-        found = self.run_command(*words, PGBOARD="/nowhere", PGBOARD_LIBRARY="")
+        path, said = self.file("game.pg", "0 0 0 0;"), "paritysol 0;\n0 0 0;\n"
+        self.assertEqual(self.run_script(path, PGBOARD="/nowhere"), (0, said, ""))
+        found = self.run_script(path, PGBOARD="/nowhere", PGBOARD_LIBRARY="")
         self.assertEqual(found, (4, "", "pgboard: /nowhere: No such file or directory\n"))
+
+    def test_what_is_solved_is_verified(self):
+        """Whether the library reads the text, or the command does."""
+        fault = unittest.mock.Mock(side_effect=pgboard.Leaves(0, 1))
+        for text, call in (("0 0 0 0,1; 1 1 1 1;", "verify_text"), ("0 0 0 0,1; 1 1 1 1; # a", "verify_csr")):
+            with unittest.mock.patch.object(pgboard.calls, call, fault):
+                with self.assertRaisesRegex(self.script.Refused, "^what pgboard solved was refused: 0 leaves to 1$"):
+                    self.call(self.file("game.pg", text))
 
     def test_an_interrupt(self):
         """It ends a search at once, as the signal that it is, without a word."""
-        given = endless("solve", self.file("game.pg", plain.written_game(self.hard()[0])))
-        with subprocess.Popen(
-            given, stdout=subprocess.PIPE, stderr=subprocess.PIPE
-        ) as process:
-            time.sleep(1)
+        given, search = self.file("game.pg", plain.written_game(self.hard()[0])), self.folder / "begun"
+        pipes = {"stdout": subprocess.PIPE, "stderr": subprocess.PIPE}
+        with subprocess.Popen(endless("solve", given), **pipes, env={**os.environ, "BEGUN": str(search)}) as process:
+            common.wait_until(search.exists)
             begun = time.monotonic()
             process.send_signal(signal.SIGINT)
             self.assertEqual(

@@ -13,13 +13,13 @@ from unittest import mock
 import pgboard
 from pgboard import board as module
 from pgboard import library
-from test_pgboard import TWO, lists_of, plain
+from test_pgboard import TWO, Tests, lists_of, plain
 
 # what may end a call before it has found all
 ENDS = pgboard.GaveUp, pgboard.TimedOut
 
 
-class Finishing(unittest.TestCase):
+class Finishing(Tests):
     def slices(self, act=lambda count: None, most=2**64 - 1):
         """Counts the slices of all boards to the end of the test, and acts before each. None takes more than so many steps:
         without a step the recursion goes on for ever.
@@ -105,20 +105,6 @@ class Finishing(unittest.TestCase):
         owners, priorities, rows = lists_of(plain.ladder(40))
         return pgboard.Board([*owners, 0], [*priorities, 0], [*rows, [len(rows)]])
 
-    def begun(self, call):
-        """A thread that makes a call, and what it raises."""
-        raised = []
-
-        def run():
-            try:
-                call()
-            except Exception as error:
-                raised.append(type(error))
-
-        thread = threading.Thread(target=run, daemon=True)
-        thread.start()
-        return thread, raised
-
     def test_others_use_the_board_between_slices(self):
         part = lists_of(plain.ladder(22))
         owners, priorities, rows = lists_of(plain.ladder(40))
@@ -144,29 +130,48 @@ class Finishing(unittest.TestCase):
         self.assertEqual((raised, [it.worker for it in board.entries].count(3)), ([pgboard.Cancelled], 1))
 
     def test_who_waits_for_the_board_goes_before_the_next_slice(self):
-        for is_gone in (True, False):
-            order, board, wake = [], pgboard.Board(*lists_of(plain.ladder(40))), time.sleep
+        board, reads, late = pgboard.Board(*lists_of(plain.ladder(40))), [], []
 
-            def pause(seconds, order=order, board=board, is_gone=is_gone):
-                wake(0)
-                order.append("pause")
-                if is_gone and order[-3:] == ["pause"] * 3:
-                    board._users.clear()
+        def act(count):
+            late.extend(it for it in reads if it.is_alive())
+            reads.append(self.begun(lambda: board.settled)[0])
+            # (which gets it when this slice is over)
+            reads[-1].join(0.02)
 
-            def slice_of(handle, steps, order=order, board=board):
-                board._users.add(-1)
-                order.append("slice")
-                return take(handle, steps)
+        self.slices(act)
+        with mock.patch.object(module, "PAUSE", 0.2):
+            board.finish()
+        self.assertGreater(len(reads), 10)
+        self.assertEqual(late, [])
 
-            take = library.Handle.advance
-            with mock.patch.object(module.time, "sleep", pause), mock.patch.object(
-                library.Handle, "advance", slice_of
-            ):
-                board.finish()
-            # (it goes on where they don't get the board)
-            pauses = [len(it) for it in "".join(word[0] for word in order).split("s")]
-            self.assertGreater(order.count("slice"), 10)
-            self.assertEqual(pauses, [0, *[3 if is_gone else module.TIMES] * (order.count("slice") - 1), 0])
+    def test_a_slice_comes_where_those_that_wait_do_not_get_the_board(self):
+        lock_of, may = threading.RLock, threading.Event()
+
+        class Lock:
+            """A lock that other threads do not get before they may."""
+
+            def __init__(self):
+                self.lock, self.thread = lock_of(), threading.get_ident()
+
+            def __enter__(self):
+                if threading.get_ident() != self.thread:
+                    may.wait(60)
+                self.lock.acquire()
+
+            def __exit__(self, *_):
+                self.lock.release()
+
+        with mock.patch.object(module.threading, "RLock", Lock):
+            board = pgboard.Board(*TWO)
+        thread, raised = self.begun(lambda: board.settled)
+        pauses = []
+        with mock.patch.object(module.time, "sleep", pauses.append):
+            board.finish()
+        self.assertEqual((set(pauses), thread.is_alive()), ({module.PAUSE}, True))
+        self.assertEqual(len(pauses) % module.TIMES, 0)
+        may.set()
+        thread.join(60)
+        self.assertEqual((thread.is_alive(), raised), (False, []))
 
     def test_a_slice_says_how_long_it_took(self):
         handle = library.Handle()

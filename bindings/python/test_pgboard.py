@@ -17,7 +17,7 @@ import shutil
 import subprocess
 import sys
 import tempfile
-import types
+import threading
 import unittest
 from array import array
 from unittest import mock
@@ -76,6 +76,20 @@ class Tests(unittest.TestCase):
             call(*arguments, **named)
         self.assertEqual((found.exception.at, found.exception.to), (at, to))
 
+    def begun(self, call):
+        """A thread that makes a call, and what it raises."""
+        raised = []
+
+        def run():
+            try:
+                call()
+            except pgboard.Fault as error:
+                raised.append(type(error))
+
+        thread = threading.Thread(target=run, daemon=True)
+        thread.start()
+        return thread, raised
+
     def says(self, said, call, *arguments, error=TypeError, **named):
         """A call raises an error whose whole text is this regular expression."""
         with self.subTest(said), self.assertRaisesRegex(error, f"^{said}$"):
@@ -89,20 +103,9 @@ class Arrays(Tests):
         (pgboard.BadLengths, 1, 0, [0], [0, 1], [[0]]),
         (pgboard.BadLengths, 2, 0, [0, 0], [0, 1], [[0]]),
         (pgboard.BadOwner, 1, 0, [0, 2], [0, 1], [[0], [0]]),
-        (pgboard.BadOwner, 1, 0, [0, 256], [0, 1], [[0], [0]]),
-        (pgboard.BadOwner, 0, 0, [-1, 0], [0, 1], [[0], [0]]),
         (pgboard.BadPriority, 1, 0, [0, 0], [0, 2**31], [[0], [0]]),
-        (pgboard.BadPriority, 1, 0, [0, 0], [0, 2**32], [[0], [0]]),
-        (pgboard.BadPriority, 1, 0, [0, 0], [0, -1], [[0], [0]]),
         (pgboard.NoSuccessor, 1, 0, [0, 0], [0, 1], [[0], []]),
         (pgboard.UnknownSuccessor, 1, 2, [0, 0], [0, 1], [[0], [2]]),
-        (pgboard.UnknownSuccessor, 0, -1, [0, 0], [0, 1], [[-1], [2]]),
-        (pgboard.UnknownSuccessor, 1, 2**32, [0, 0], [0, 1], [[0], [1, 2**32]]),
-        # (numbers that fit no array are refused in the library's order)
-        (pgboard.BadPriority, 0, 0, [0, 0], [2**31, 2**32], [[0], [0]]),
-        (pgboard.BadOwner, 0, 0, [2], [0], [[-1]]),
-        (pgboard.UnknownSuccessor, 0, 7, [0, 0], [0, 0], [[7, -1], [2**40]]),
-        (pgboard.UnknownSuccessor, 1, -1, [0, 0, 0], [0, 0, 0], [[0], [1, -1], [5]]),
     ]
 
     def test_solves_and_verifies(self):
@@ -119,18 +122,13 @@ class Arrays(Tests):
             rows = (iter(row) for row in game[2])
             self.refused(fault, at, to, pgboard.solve, iter(game[0]), iter(game[1]), rows)
 
-    def test_a_row_that_does_not_fit_is_kept_once(self):
-        wanted = array("I", [0, 1, 3, 4]), [0, 1, -1, 5]
-        self.assertEqual(pgboard.arrays.rows_of([[0], [1, -1], [5]]), wanted)
-
     def test_refuses_solutions(self):
         for fault, at, to, winners, choices in (
             (pgboard.BadResults, 5, 0, [0, 1], [0]),
-            (pgboard.BadWinner, 1, 0, iter([0, 256]), iter([0, 1])),
+            (pgboard.BadWinner, 1, 0, iter([0, 2]), iter([0, 1])),
             (pgboard.BadWinner, 1, 0, [0, None], [0, 1]),
             (pgboard.NoChoice, 0, 0, [0, 1], [None, 1]),
-            (pgboard.BadChoice, 0, 0, [0, 1], [-1, 1]),
-            (pgboard.BadChoice, 0, 0, [0, 1], [2**32 - 1, 1]),
+            (pgboard.BadChoice, 0, 0, [0, 1], [2**32 - 2, 1]),
             (pgboard.Leaves, 0, 1, [0, 1], [1, 1]),
         ):
             self.refused(fault, at, to, pgboard.verify, *TWO, winners, choices)
@@ -182,7 +180,7 @@ class Arrays(Tests):
         for wrong in (0.5, 1e10, float("nan"), "0"):
             said = rf"choices\[0\] {whole} {type(wrong).__name__}"
             self.says(said, pgboard.verify, *TWO, [0, 1], [wrong, 1])
-        self.says("steps -1 is below 0", pgboard.solve, *TWO, steps=-1, error=ValueError)
+        self.says("steps: -1 is out of range", pgboard.solve, *TWO, steps=-1, error=ValueError)
         for steps in (1.5, "3", [1]):
             self.says(f"steps {whole} {type(steps).__name__}", pgboard.solve, *TWO, steps=steps)
         both = {"known": ([None, None], [None, None]), "steps": 5}
@@ -225,47 +223,49 @@ class Buffers(Tests):
             found = pgboard.solve_csr(*(array("q", it) for it in game))
             self.assertEqual(found, (array("B", [1] * size), array("I", [size - 1] * size)))
 
-    def test_refuses_integers_that_do_not_fit(self):
-        far = -1, 2**32 + 1, 2**40
-        for fault, at, place, values, row in (
-            (pgboard.BadOwner, 1, 0, (256, *far), [0, None]),
-            (pgboard.BadPriority, 0, 1, (2**31, *far), [None, 1]),
-            (pgboard.BadRow, 0, 2, (4, *far), [0, None, 3]),
-            (pgboard.BadLengths, 3, 2, (4, *far), [0, 2, None]),
-        ):
-            for value in values:
-                wrong = [value if it is None else it for it in row]
-                self.refused(fault, at, 0, pgboard.solve_csr, *with_one(CSR, place, array("q", wrong)))
-                self.refused(fault, at, 0, pgboard.solve_csr, *with_one(CSR, place, wrong))
-        self.refused(pgboard.BadOwner, 1, 0, pgboard.solve_csr, *with_one(CSR, 0, array("b", [0, -1])))
-        for value in (256, *far):
-            known = array("q", [0, value]), array("q", [0, 1])
-            self.refused(pgboard.BadWinner, 1, 0, pgboard.solve_csr, *CSR, known=known)
-        for value in (2**32 - 2, *far):
-            claims = array("q", [0, 1]), array("q", [value, 1])
-            self.refused(pgboard.BadChoice, 0, 0, pgboard.verify_csr, *CSR, *claims)
+    def test_refuses_numbers_out_of_range(self):
+        """In lists and in buffers of each size, by one ValueError with name and place."""
+        for place, name in enumerate(NAMES):
+            for value in (-1, -(2**31), 256 if place == 0 else 2**32, 2**40, 2**64):
+                wrong = [0, value]
+                said = rf"{name}\[1\]: {value} is out of range"
+                for held in (wrong, tuple(wrong), *self.signed(wrong)):
+                    game = with_one(CSR, place, held)
+                    self.out_of_range(said, pgboard.solve_csr, *game)
+                    self.out_of_range(said, pgboard.verify_csr, *game, *SOLVED)
+                    self.out_of_range(said, pgboard.Board.from_csr, *game)
+            if place < 2:
+                self.out_of_range(said, pgboard.solve, *with_one(TWO, place, iter(wrong)))
+            if place == 3:
+                said = rf"successors\[1\]\[1\]: {value} is out of range"
+                self.out_of_range(said, pgboard.solve, *TWO[:2], [[0, 1], iter(wrong)])
 
-    def test_an_unknown_successor_is_the_callers_number(self):
-        for far in (-1, -(2**40), 2, 2**32 + 1, 2**40):
-            for row in (array("q", [0, far, 1]), [0, far, 1], (0, far, 1)):
-                game = with_one(CSR, 3, row)
-                self.refused(pgboard.UnknownSuccessor, 0, far, pgboard.solve_csr, *game)
-                self.refused(pgboard.UnknownSuccessor, 0, far, pgboard.verify_csr, *game, *SOLVED)
-                self.refused(pgboard.UnknownSuccessor, 0, far, pgboard.Board.from_csr, *game)
-        self.refused(pgboard.UnknownSuccessor, 0, -7, pgboard.solve_csr, [0], [0], [0, 2], [-7, -2])
-        # another thread may have changed it since
-        for indptr, indices in (([0, 1, 2], [0, 0]), ([0, 1], [9]), ([0, 1, 2], [])):
-            given = memoryview(array("I", indptr)), array("I", indices)
-            fault = pgboard.arrays.as_given(pgboard.UnknownSuccessor(1, 7), *given)
-            self.assertEqual((type(fault), fault.at, fault.to), (pgboard.UnknownSuccessor, 1, 7))
+    def test_refuses_claims_out_of_range(self):
+        for value in (-1, -(2**31), 2**32, 2**40):
+            said = rf"winners\[1\]: {value} is out of range"
+            for held in ([0, value], *self.signed([0, value])):
+                self.out_of_range(said, pgboard.verify_csr, *CSR, held, [0, 1])
+                self.out_of_range(said, pgboard.solve_csr, *CSR, known=(held, [0, 1]))
+            self.out_of_range(said, pgboard.verify, *TWO, iter([0, value]), [0, 1])
+            said = rf"choices\[1\]: {value} is out of range"
+            for held in ([0, value], *self.signed([0, value])):
+                self.out_of_range(said, pgboard.verify_csr, *CSR, [0, 1], held)
+                self.out_of_range(said, pgboard.Board.from_csr(*CSR).post_arrays, 1, [0, 1], held)
+            self.out_of_range(said, pgboard.verify, *TWO, [0, 1], iter([0, value]))
+        # (in a list no number is none)
+        said = rf"choices\[1\]: {pgboard.NO_CHOICE} is out of range"
+        self.out_of_range(said, pgboard.verify, *TWO, [0, 1], [None, pgboard.NO_CHOICE])
 
-    def test_minus_one_is_never_none_whatever_its_size(self):
-        for letter in "bhiq":
-            less = array(letter, [-1, 1])
-            self.refused(pgboard.BadWinner, 0, 0, pgboard.solve_csr, *CSR, known=(less, [0, 1]))
-            self.refused(pgboard.BadChoice, 0, 0, pgboard.verify_csr, *CSR, [0, 1], less)
-            with pgboard.Board.from_csr(*CSR) as board:
-                self.refused(pgboard.BadShape, 0, 0, board.post_arrays, 1, [0, 1], less)
+    def signed(self, numbers):
+        """Arrays that hold them, and are not those that C takes."""
+        for letter, least in zip("bhiq", (2**7, 2**15, 2**31, 2**63)):
+            if -least <= min(numbers) <= max(numbers) < least:
+                yield array(letter, numbers)
+
+    def out_of_range(self, said, call, *arguments, **named):
+        with self.subTest(said), self.assertRaisesRegex(ValueError, f"^{said}$") as found:
+            call(*arguments, **named)
+        self.assertIs(type(found.exception), ValueError)
 
     def test_refuses_what_is_no_buffer_of_integers(self):
         needed = "a contiguous buffer of integers in one dimension is needed, not"
@@ -291,32 +291,21 @@ class Buffers(Tests):
             said = rf"{NAMES[at]}\[0\] has to be an integer, not {type(wrong[0]).__name__}"
             self.says(said, pgboard.solve_csr, *with_one(CSR, at, wrong))
 
-    def matrices(self, rows, width):
-        """Rows as matrices in the form csr: the fields of SciPy's, and SciPy's own where it is installed."""
-        starts, targets = csr_of([], [], rows)[2:]
-        yield types.SimpleNamespace(format="csr", indptr=array("i", starts), indices=array("i", targets))
-        if scipy:
-            dense = numpy.zeros((len(rows), width), "i8")
-            for v, row in enumerate(rows):
-                dense[v, row] = 1 + v
-            yield from (kind(dense) for kind in (scipy.sparse.csr_matrix, scipy.sparse.csr_array))
-
+    @unittest.skipUnless(scipy, "scipy is not installed")
     def test_takes_a_matrix_of_scipy(self):
-        for matrix in self.matrices(TWO[2], 2):
+        kinds = scipy.sparse.csr_matrix, scipy.sparse.csr_array
+        for matrix in (kind([[1, 2], [0, 3]]) for kind in kinds):
             self.assertEqual(pgboard.solve_csr(*TWO[:2], matrix), SOLVED)
             pgboard.verify_csr(*TWO[:2], matrix, None, *SOLVED)
             with pgboard.Board.from_csr(*TWO[:2], matrix) as board:
                 self.assertEqual(board.post(1, {1: 1}), (0, 1, 1))
         # (a column-compressed one has the same fields, by which each edge would go the other way)
-        wrong = [types.SimpleNamespace(**{**vars(next(self.matrices([[0], [1]], 2))), "format": "csc"})]
-        wrong += [matrix.tocsc(), matrix.tocoo(), numpy.array([0, 1])] if scipy else []
-        for it in (*wrong, array("I", [0, 1]), [0, 2, 3]):
+        for it in (matrix.tocsc(), matrix.tocoo(), numpy.array([0, 1]), array("I", [0, 1]), [0, 2, 3]):
             said = "indices: without them a SciPy matrix in the form csr is needed for indptr, not .*"
             self.says(said, pgboard.solve_csr, *TWO[:2], it)
-        for matrix in self.matrices([[0, 1]] * 3, 2):
-            self.refused(pgboard.BadLengths, 2, 0, pgboard.solve_csr, *TWO[:2], matrix)
-        for matrix in self.matrices([[0, 1, 2]] * 2, 3):
-            self.refused(pgboard.UnknownSuccessor, 0, 2, pgboard.solve_csr, *TWO[:2], matrix)
+        for kind in kinds:
+            self.refused(pgboard.BadLengths, 2, 0, pgboard.solve_csr, *TWO[:2], kind([[1, 1]] * 3))
+            self.refused(pgboard.UnknownSuccessor, 0, 2, pgboard.solve_csr, *TWO[:2], kind([[1] * 3] * 2))
 
 
 class Faults(Tests):
@@ -412,6 +401,10 @@ class Package(Tests):
         least = int(re.search(r'requires-python = ">=3\.(\d+)"', said)[1])
         for path in pathlib.Path(pgboard.__file__).parent.rglob("*.py"):
             ast.parse(path.read_text(), feature_version=(3, least))
+        # (what it takes of Python's library is there too)
+        if shutil.which("mypy"):
+            said = self.mypy(f"--python-version=3.{least}", os.path.dirname(pgboard.__file__))
+            self.assertEqual(said[0], 0, said[1])
 
     def test_examples(self):
         self.assertEqual(doctest.testmod(pgboard), (0, 2))
@@ -542,9 +535,17 @@ class Graphs(Tests):
         again = pickle.loads(pickle.dumps(found.exception))
         self.assertEqual(str(again), str(found.exception))
         data = self.graph.nodes["lose"]
-        for name, fault in (("priority", pgboard.BadPriority), ("owner", pgboard.BadOwner)):
-            for data[name] in (2**31, 2**40, -1):
-                self.says(f"node 'lose': the {name} is .*", pgboard.solve_graph, self.graph, error=fault)
+        for name, fault, wrong, far in (
+            ("priority", pgboard.BadPriority, 2**31, 2**32),
+            ("owner", pgboard.BadOwner, 2, 256),
+        ):
+            for data[name], said, error in (
+                (-1, f": {name}: -1 is out of range", ValueError),
+                (far, f": {name}: {far} is out of range", ValueError),
+                ("1", f": {name} has to be an integer, not str", TypeError),
+                (wrong, f": the {name} is .*", fault),
+            ):
+                self.says(f"node 'lose'{said}", pgboard.solve_graph, self.graph, error=error)
         empty = networkx.DiGraph()
         self.says("there is no vertex", pgboard.solve_graph, empty, error=pgboard.NoVertex)
 

@@ -80,17 +80,13 @@ class Rules(Tests):
             (pgboard.BadPriority, 1, 0, both, [0, 0], [0, 2**31], [0, 1, 2], [0, 0]),
             # (at a vertex without successors, whose priority is not looked at, too)
             (pgboard.BadPriority, 0, 0, both[::2], [0] * 3, [2**31, 1, 2], [0, 0, 1, 2], [2, 1]),
-            (pgboard.BadPriority, 0, 0, both, bytes(3), array("i", [-1, 1, 2]), [0, 1, 2, 3], [0, 2, 1]),
             (pgboard.NoVertex, 0, 0, both, [], [], [0], []),
-            (pgboard.UnknownSuccessor, 1, -7, both[::2], [0, 0], [0, 0], [0, 0, 1], [-7]),
+            (pgboard.UnknownSuccessor, 1, 7, both[::2], [0, 0], [0, 0], [0, 0, 1], [7]),
             (pgboard.NoSuccessor, 0, 0, both[1:2], [0, 0], [0, 0], [0, 0, 1], [0]),
             (pgboard.NoSuccessor, 0, 0, [{}], [0], [0], [0, 0], []),
         ):
             for how in hows:
                 self.refused(fault, at, to, pgboard.solve_csr, *game, **how)
-        far = array("q", [1, 2**32 + 1])
-        game = [0] * 3, [0] * 3, [0, 0, 1, 2], far
-        self.refused(pgboard.UnknownSuccessor, 2, far[1], pgboard.solve_csr, *game, dead_ends=True)
 
 
 if __name__ == "__main__":

@@ -31,12 +31,12 @@ import subprocess
 import threading
 import time
 
-import pgboard
 from pgboard.command import (
     FILE,
     WORDS,
     Parser,
     Refused,
+    engine,
     folder,
     on_signals,
     printable,
@@ -45,7 +45,6 @@ from pgboard.command import (
     undone,
     write,
 )
-from pgboard.command.engine import plain
 from pgboard.command.games import PLAYERS, Solution, game_of, solution_of
 
 HELP = """
@@ -58,58 +57,31 @@ status: 0 where all is written, 2 where something was refused
 """
 # a solver may print so many bytes; a text that pgboard takes is not longer
 MOST = 268_435_456
-# no vertex of any game
-NO_VERTEX = -1
 COLOURS = ("#8a8a8a", "#2563a8", "#d97706", "#15803d", "#b91c1c", "#7c3aed", "#0e7490", "#a16207", "#be185d")
 WIDTH, HEIGHT, LEFT, TOP = 720, 360, 80, 20
 
 
-class Table:
+class Table(engine.Table):
     """A game on a board, and the identifiers of its vertices."""
 
     def __init__(self, game):
-        self.text = pgboard.tidy_text(plain(game).written())
-        self.ids, *arrays = game.arrays()
-        self.number, self.owners = {id: v for v, id in enumerate(self.ids)}, arrays[0]
-        self.board = pgboard.Board.from_csr(*arrays)
+        super().__init__(game)
+        self.text = self.calls.tidy_text(engine.plain(game).written())
+        self.shared = self.board()
 
     def is_full(self):
-        return self.board.settled == len(self.ids)
+        return self.shared.settled == len(self.ids)
 
     def parts_of(self, text):
-        """What a solver says that each player wins: a choice or None of each vertex. Choices that no winner
-        owns are left out.
+        """What a solver says that each player wins: a choice or None of each vertex.
 
-        What comes after the last semicolon is left out too, since a solver may be ended as it prints.
+        What comes after the last semicolon is left out, since a solver may be ended as it prints.
         """
-        parts = {}, {}
-        for id, (winner, choice) in solution_of("output", text[: text.rfind(";") + 1] or text).rows.items():
+        rows = solution_of("output", text[: text.rfind(";") + 1] or text).rows
+        for id in rows:
             if id not in self.number:
                 raise Refused(f"vertex {id}: not in the game")
-            is_chosen = choice is not None and self.owners[self.number[id]] == winner
-            parts[winner][self.number[id]] = self.number.get(choice, NO_VERTEX) if is_chosen else None
-        return parts
-
-    def solution_text(self):
-        rows = zip(self.ids, *self.board.solution())
-        return Solution(
-            {id: (winner, None if it == pgboard.NO_CHOICE else self.ids[it]) for id, winner, it in rows}
-        ).written()
-
-    def said_of(self, refused, vertices):
-        """Why the board refuses a claim of these vertices, by identifiers."""
-        if isinstance(refused, pgboard.BadShape):
-            return f"no choice, or a bad one, at {self.ids[sorted(vertices)[refused.at]]}"
-        if isinstance(refused, pgboard.Stale):
-            return "all of it is settled already"
-        place = self.ids[refused.at]
-        if isinstance(refused, pgboard.Open):
-            return f"{place} leaves to {self.ids[refused.to]}"
-        return (
-            f"bad cycle at {place}"
-            if isinstance(refused, pgboard.BadCycle)
-            else f"{place} is settled for the other player"
-        )
+        return self.claim(0, rows), self.claim(1, rows)
 
 
 def end_all(solvers):
@@ -216,10 +188,11 @@ class Referee:
                 it.join()
         # (no signal reaches Python during a call of the board)
         on_signals()
-        before = self.game.board.settled
-        self.game.board.finish()
-        self.note(0, self.game.board.settled - before)
-        self.say(f"the board itself settled {self.game.board.settled - before} of {len(self.game.ids)}")
+        board = self.game.shared
+        left = len(self.game.ids) - board.settled
+        board.finish()
+        self.note(0, left)
+        self.say(f"the board itself settled {left} of {len(self.game.ids)}")
 
     def serve(self, solver, folder):
         """Runs a solver and posts what it prints; where the board is full then, the other solvers end."""
@@ -258,9 +231,9 @@ class Referee:
 
     def post(self, worker, player, part):
         try:
-            posted = self.game.board.post(player, part, worker)
-        except pgboard.RefusedClaim as refused:
-            return f"refused: {self.game.said_of(refused, part)}"
+            posted = self.game.shared.post(player, part, worker)
+        except self.game.calls.RefusedClaim as refused:
+            return f"refused: {self.game.said(refused, part)}"
         self.note(worker, posted.settled)
         return f"settled {posted.settled}, of which {posted.claimed} of {len(part)} claimed"
 
@@ -347,7 +320,7 @@ def main(words):
         raise Refused(str(error), FILE) from None
     referee = Referee(table, solvers, given.time)
     referee.run()
-    sys.stdout.write(table.solution_text())
+    sys.stdout.write(Solution(table.rows(table.shared.solution())).written())
     sys.stdout.flush()
     if given.picture:
         write(given.picture, referee.picture())

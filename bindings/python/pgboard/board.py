@@ -14,11 +14,11 @@ from array import array
 from collections.abc import Mapping as MappingOf
 from collections.abc import Sequence as SequenceOf
 from itertools import compress
-from typing import TYPE_CHECKING, Iterable, Iterator, List, Mapping, NamedTuple, Optional, Set, Tuple, Type, TypeVar, Union, overload
+from typing import TYPE_CHECKING, Any, Iterable, Iterator, Mapping, NamedTuple, TypeVar, overload
 
 from . import faults, native, slices
-from .arrays import UNSIGNED, Buffer, Numbers, Rows, Solution, as_given, fitting, game_of, game_views, moves_of, rows_of_matrix, view_of
-from .library import NO_CHOICE, NO_WINNER, Handle, Ints, bound, index_of, own, owned
+from .arrays import Buffer, Numbers, Rows, Solution, game_of, game_views, moves_of, numbers, view_of
+from .library import NO_CHOICE, NO_WINNER, Handle, Ints, bound, index_of, number_of, own, owned
 from .slices import Cancel, Slice, limits_of
 from .solving import blank
 
@@ -77,35 +77,32 @@ class Board:
 
     @classmethod
     def from_csr(
-        cls: Type[AnyBoard],
+        cls: type[AnyBoard],
         owners: Buffer,
         priorities: Buffer,
-        indptr: Union[Buffer, Rows],
-        indices: Optional[Buffer] = None,
+        indptr: Buffer | Rows,
+        indices: Buffer | None = None,
         *,
         dead_ends: bool = False,
         least: bool = False,
     ) -> AnyBoard:
         """A board of a game in compressed sparse rows, which are copied, as `solve_csr` takes them."""
         board = cls.__new__(cls)
-        board._open(owners, priorities, *rows_of_matrix(indptr, indices), dead_ends, least)
+        board._open(owners, priorities, indptr, indices, dead_ends, least)
         return board
 
-    def _open(self, owners: Buffer, priorities: Buffer, indptr: Buffer, indices: Buffer, dead_ends: bool, least: bool) -> None:
-        game = owned(game_views(owners, priorities, indptr, indices, dead_ends, least))
+    def _open(self, *given: Any) -> None:
+        game = owned(game_views(*given))
         size = len(game[0])
         # (a handler of a signal may call the board that its thread calls)
         self._lock, self._handle = threading.RLock(), Handle()
         # the threads that have it or wait for it
-        self._users: Set[int] = set()
+        self._users: set[int] = set()
         self._seen, self._state = 0, Solution(array("B", [NO_WINNER]) * size, array("I", [NO_CHOICE]) * size)
         # (before it opens, since an exception of a signal's handler may come once it is open)
         self._close = weakref.finalize(self, self._handle.close)
         self._close.atexit = False
-        try:
-            self._handle.open(game)
-        except faults.UnknownSuccessor as fault:
-            raise as_given(fault, view_of("indptr", indptr, "I"), indices) from None
+        self._handle.open(game)
 
     @contextlib.contextmanager
     def _turn(self) -> Iterator[None]:
@@ -133,7 +130,7 @@ class Board:
                 raise faults.Closed()
             return self._handle.count(what)
 
-    def post(self, player: int, choices: Mapping[int, Optional[int]], worker: int = 0) -> Posted:
+    def post(self, player: int, choices: Mapping[int, int | None], worker: int = 0) -> Posted:
         """Claims that the player wins these vertices, by these choices at those that he owns, and None at the others.
 
         Kept edges may also lead to what is settled for him. `worker` is any number from 0 to 4294967295 that the entry is to have. Raises
@@ -142,21 +139,17 @@ class Board:
         if not isinstance(choices, MappingOf):
             raise TypeError(f"choices are a mapping from vertices, not {type(choices).__name__}")
         rows = sorted(choices.items(), key=lambda row: row[0])
-        return self._post(player, fitting("I", [v for v, _ in rows]), moves_of(it for _, it in rows), worker)
+        return self._post(player, numbers("vertices", "I", [v for v, _ in rows]), moves_of(it for _, it in rows), worker)
 
     def post_arrays(self, player: int, vertices: Buffer, choices: Buffer, worker: int = 0) -> Posted:
         """The same with two buffers of one length, as of `solve_csr`: vertices that rise, and choices, which are NO_CHOICE at the
         opponent's vertices. Else BadClaimLengths is raised, after BadPlayer."""
-        return self._post(player, own(view_of("vertices", vertices, "I")), own(view_of("choices", choices, "I", UNSIGNED)), worker)
+        return self._post(player, own(view_of("vertices", vertices, "I")), own(view_of("choices", choices, "I")), worker)
 
     def _post(self, player: int, vertices: Ints, choices: Ints, worker: int) -> Posted:
-        worker, player = index_of("worker", worker), index_of("player", player)
-        if not 0 <= worker < 2**32:
-            raise ValueError(f"worker {worker} is not from 0 to 4294967295")
+        worker, player = (number_of(name, it, 2**32 - 1) for name, it in (("worker", worker), ("player", player)))
         with self._turn():
-            if self._close.alive and not 0 <= player < 2**32:
-                raise faults.BadPlayer(player)
-            return Posted(*self._handle.post(worker, player % 2**32, (vertices, choices)))
+            return Posted(*self._handle.post(worker, player, (vertices, choices)))
 
     def _read(self) -> Solution:
         """The state, which is read again where an entry has been added."""
@@ -172,15 +165,15 @@ class Board:
         with self._turn():
             return Solution(*(it[:] for it in self._read()))
 
-    def winner(self, v: int) -> Optional[int]:
+    def winner(self, v: int) -> int | None:
         """The player for whom a vertex is settled, or None. Raises IndexError for what is no vertex."""
         return self._at(v)[0]
 
-    def choice(self, v: int) -> Optional[int]:
+    def choice(self, v: int) -> int | None:
         """The choice at a vertex that is settled for its owner, or None."""
         return self._at(v)[1]
 
-    def _at(self, v: int) -> Tuple[Optional[int], Optional[int]]:
+    def _at(self, v: int) -> tuple[int | None, int | None]:
         with self._turn():
             winners, choices = self._read()
             v = index_of("a vertex", v)
@@ -211,7 +204,7 @@ class Board:
         worker, player, claimed, _ = native.ENTRY.unpack(numbers)
         return Entry(worker, player, claimed, vertices, choices)
 
-    def finish(self, steps: Optional[int] = None, timeout: Optional[float] = None, cancel: Optional[Cancel] = None) -> None:
+    def finish(self, steps: int | None = None, timeout: float | None = None, cancel: Cancel | None = None) -> None:
         """Settles what is unsettled, by posts of worker 0 that solve as `solve` does.
 
         Raises GaveUp if the recursion takes more than `steps`, and TimedOut or Cancelled as `solve_csr` does. Ctrl-C ends it too. What it
@@ -263,7 +256,7 @@ class Entries(EntrySequence):
     @overload
     def __getitem__(self, at: int) -> Entry: ...
     @overload
-    def __getitem__(self, at: slice) -> List[Entry]: ...
-    def __getitem__(self, at: Union[int, slice]) -> Union[Entry, List[Entry]]:
+    def __getitem__(self, at: slice) -> list[Entry]: ...
+    def __getitem__(self, at: int | slice) -> Entry | list[Entry]:
         numbers = range(len(self))[at]
         return self._board._entry(numbers) if isinstance(numbers, int) else [self._board._entry(it) for it in numbers]

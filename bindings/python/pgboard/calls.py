@@ -2,19 +2,19 @@
 
 from __future__ import annotations
 
+import os
 from array import array
-from typing import Any, Iterable, List, Optional, Sequence, Tuple, Union
+from typing import Any, Iterable, Sequence
 
 from . import faults
 
 from .arrays import (
-    Buffer, MaybeNumbers, Numbers, PathLike, Rows, Solution, Text, as_given, claim_views, claims_of, game_of, game_views, pair_of, rows_of_matrix,
-    view_of,
+    Buffer, MaybeNumbers, Numbers, Rows, Solution, Text, claim_views, claims_of, game_of, game_views, pair_of,
 )  # fmt: skip
 from .board import Board, Entries, Entry, Posted
 from .faults import *  # noqa: F401,F403
 from .files import read_game
-from .library import NO_CHOICE, NO_WINNER, bound, owned, run, written
+from .library import NO_CHOICE, NO_WINNER, bound, number_of, owned, run, written
 from .native import span_of, struct_of
 from .slices import Cancel, limits_of
 from .solving import blank_text, solve_arrays, solve_bytes
@@ -29,15 +29,15 @@ __all__ = [
 def solve_csr(
     owners: Buffer,
     priorities: Buffer,
-    indptr: Union[Buffer, Rows],
-    indices: Optional[Buffer] = None,
-    known: Optional[Tuple[Buffer, Buffer]] = None,
-    steps: Optional[int] = None,
+    indptr: Buffer | Rows,
+    indices: Buffer | None = None,
+    known: tuple[Buffer, Buffer] | None = None,
+    steps: int | None = None,
     *,
     dead_ends: bool = False,
     least: bool = False,
-    timeout: Optional[float] = None,
-    cancel: Optional[Cancel] = None,
+    timeout: float | None = None,
+    cancel: Cancel | None = None,
 ) -> Solution:
     """Solves a game in compressed sparse rows: vertex v has the successors indices[indptr[v]:indptr[v + 1]].
 
@@ -58,20 +58,16 @@ def solve_csr(
     if known is not None and steps is not None:
         raise TypeError("known and steps can't be given together")
     number, limits = bound(steps), limits_of(timeout, cancel)
-    rows = rows_of_matrix(indptr, indices)
-    game = owned(game_views(owners, priorities, *rows, dead_ends, least))
+    game = owned(game_views(owners, priorities, indptr, indices, dead_ends, least))
     claims = None if known is None else owned(claim_views(*pair_of(known)))
-    try:
-        return solve_arrays(game, claims, number, limits)
-    except faults.UnknownSuccessor as fault:
-        raise as_given(fault, view_of("indptr", rows[0], "I"), rows[1]) from None
+    return solve_arrays(game, claims, number, limits)
 
 
 def verify_csr(
     owners: Buffer,
     priorities: Buffer,
-    indptr: Union[Buffer, Rows],
-    indices: Optional[Buffer],
+    indptr: Buffer | Rows,
+    indices: Buffer | None,
     winners: Buffer,
     choices: Buffer,
     *,
@@ -82,29 +78,23 @@ def verify_csr(
     and raises NotASolution with what is wrong first if they are none. Raises what `solve_csr` does too.
     (`indices` is None where `indptr` is a matrix.)
     """
-    rows = rows_of_matrix(indptr, indices)
-    given = [
-        owned(game_views(owners, priorities, *rows, dead_ends, least)),
-        owned(claim_views(winners, choices)),
-    ]
-    try:
-        run("pgboard_check", *map(struct_of, given))
-    except faults.UnknownSuccessor as fault:
-        raise as_given(fault, view_of("indptr", rows[0], "I"), rows[1]) from None
+    game = owned(game_views(owners, priorities, indptr, indices, dead_ends, least))
+    claims = owned(claim_views(winners, choices))
+    run("pgboard_check", struct_of(game), struct_of(claims))
 
 
 def solve(
     owners: Numbers,
     priorities: Numbers,
     successors: Iterable[Numbers],
-    known: Optional[Tuple[MaybeNumbers, MaybeNumbers]] = None,
-    steps: Optional[int] = None,
+    known: tuple[MaybeNumbers, MaybeNumbers] | None = None,
+    steps: int | None = None,
     *,
     dead_ends: bool = False,
     least: bool = False,
-    timeout: Optional[float] = None,
-    cancel: Optional[Cancel] = None,
-) -> Tuple[List[int], List[Optional[int]]]:
+    timeout: float | None = None,
+    cancel: Cancel | None = None,
+) -> tuple[list[int], list[int | None]]:
     """Solves a game: the owner (0 or 1), the priority and the successors of each vertex.
 
     Returns the winner of each vertex, and for each vertex that its winner owns the successor that he moves
@@ -150,14 +140,14 @@ def text_bytes(text: Text) -> bytes:
     raise TypeError(f"a text is bytes or str, not {type(text).__name__}")
 
 
-def solve_text(game: Text, *, timeout: Optional[float] = None, cancel: Optional[Cancel] = None) -> str:
+def solve_text(game: Text, *, timeout: float | None = None, cancel: Cancel | None = None) -> str:
     """A solution's text of a game's text in PGSolver's format. Raises what `solve` does."""
     limits = limits_of(timeout, cancel)
     return solve_bytes(array("B", text_bytes(game)), limits)
 
 
 def solve_file(
-    path: Union[str, bytes, PathLike], *, timeout: Optional[float] = None, cancel: Optional[Cancel] = None
+    path: str | bytes | os.PathLike[str], *, timeout: float | None = None, cancel: Cancel | None = None
 ) -> str:
     """A solution's text of the game that a file has as text. Raises OSError where the file can't be read,
     and what `solve_text` raises.
@@ -180,12 +170,12 @@ def verify_text(game: Text, solution: Text) -> None:
     run("pgboard_verify_text", *span_of(given[0]), *span_of(given[1]))
 
 
-def attributes(graph: Any, nodes: Sequence[Any], name: str) -> List[int]:
-    """The attribute of each node; MissingAttribute for the first that has none."""
+def attributes(graph: Any, nodes: Sequence[Any], name: str, most: int) -> list[int]:
+    """The attribute of each node, up to a number; MissingAttribute for the first that has none."""
     for at, node in enumerate(nodes):
         if name not in graph.nodes[node]:
             raise faults.MissingAttribute(at, node, name)
-    return [graph.nodes[it][name] for it in nodes]
+    return [number_of(f"node {it!r}: {name}", graph.nodes[it][name], most) for it in nodes]
 
 
 def solve_graph(
@@ -197,8 +187,8 @@ def solve_graph(
     *,
     dead_ends: bool = False,
     least: bool = False,
-    timeout: Optional[float] = None,
-    cancel: Optional[Cancel] = None,
+    timeout: float | None = None,
+    cancel: Cancel | None = None,
 ) -> Any:
     """Solves a networkx.DiGraph, whose nodes have an owner and a priority, by the names of attributes that
     are given.
@@ -211,7 +201,7 @@ def solve_graph(
         raise TypeError(f"a graph is a networkx.DiGraph, not {type(graph).__name__}")
     nodes = list(graph)
     places = {node: v for v, node in enumerate(nodes)}
-    owners, priorities = attributes(graph, nodes, owner), attributes(graph, nodes, priority)
+    owners, priorities = attributes(graph, nodes, owner, 255), attributes(graph, nodes, priority, NO_CHOICE)
     try:
         rows = [[places[to] for to in graph.successors(it)] for it in nodes]
         winners, choices = solve(

@@ -6,16 +6,16 @@ from __future__ import annotations
 
 import os
 from types import SimpleNamespace
-from typing import TYPE_CHECKING, List, NamedTuple, Union
+from typing import TYPE_CHECKING, NamedTuple
 
 if TYPE_CHECKING:
-    from .arrays import Ints, PathLike
+    from .arrays import Ints
 
 
 class Game(NamedTuple):
     """A game in arrays as `solve_csr` takes them, and the identifiers of its vertices."""
 
-    ids: List[int]
+    ids: list[int]
     owners: Ints
     priorities: Ints
     indptr: Ints
@@ -23,7 +23,7 @@ class Game(NamedTuple):
 
 
 def read_game(
-    path: Union[str, PathLike], *, least: bool = False, odd: bool = False, dead_ends: bool = False
+    path: str | os.PathLike[str], *, least: bool = False, odd: bool = False, dead_ends: bool = False
 ) -> Game:
     """The game of a file, which may be packed, with the rules that its text does not say. Vertices have the
     order of their identifiers. Raises OSError where the file can't be read, and ValueError, which names the

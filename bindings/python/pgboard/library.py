@@ -5,11 +5,12 @@ on copies of memory.
 from __future__ import annotations
 
 import ctypes
+import math
 import operator
 import os
 import time
 from array import array
-from typing import TYPE_CHECKING, Any, Iterable, List, Optional, Sequence, Tuple
+from typing import TYPE_CHECKING, Any, Iterable, Sequence
 
 from . import native
 from .faults import FAULTS, GaveUp
@@ -75,14 +76,17 @@ def index_of(name: str, value: Any) -> int:
         raise TypeError(f"{name} has to be an integer, not {type(value).__name__}") from None
 
 
-def bound(steps: Optional[int]) -> Optional[int]:
+def number_of(name: str, value: Any, most: float = math.inf) -> int:
+    """A value as an integer that is not below 0 nor above the greatest; else TypeError or ValueError."""
+    number = index_of(name, value)
+    if not 0 <= number <= most:
+        raise ValueError(f"{name}: {number} is out of range")
+    return number
+
+
+def bound(steps: int | None) -> int | None:
     """The argument of a call for this bound on the steps of the recursion."""
-    if steps is None:
-        return None
-    number = index_of("steps", steps)
-    if number < 0:
-        raise ValueError(f"steps {number} is below 0")
-    return min(number, 2**64 - 1)
+    return None if steps is None else min(number_of("steps", steps), 2**64 - 1)
 
 
 def own(view: memoryview) -> Ints:
@@ -90,7 +94,7 @@ def own(view: memoryview) -> Ints:
     return array("I" if view.itemsize == 4 else "B", view.tobytes())
 
 
-def owned(views: Iterable[memoryview]) -> List[Ints]:
+def owned(views: Iterable[memoryview]) -> list[Ints]:
     """Copies of views. (The library releases the interpreter's lock, so another thread may change what a
     caller has given.)
     """
@@ -135,7 +139,7 @@ class Handle:
         """Opens a board of the game of a text."""
         run("pgboard_board_open_text", self.memory, *native.span_of(text))
 
-    def post(self, worker: int, player: int, claim: Sequence[Ints]) -> Tuple[int, int, int]:
+    def post(self, worker: int, player: int, claim: Sequence[Ints]) -> tuple[int, int, int]:
         """Posts a claim. Returns the numbers of the post."""
         posted = (ctypes.c_uint64 * 3)()
         run("pgboard_board_post", self.memory, native.struct_of(claim, worker, player), posted)
@@ -162,7 +166,7 @@ class Handle:
         """How many vertices are settled, or how many entries there are."""
         return int(getattr(LIBRARY, f"pgboard_board_{what}")(self.memory))
 
-    def entry(self, number: int) -> Tuple[bytes, Ints, Ints]:
+    def entry(self, number: int) -> tuple[bytes, Ints, Ints]:
         """The numbers, the vertices and the choices of an entry."""
         outcome, found = native.entry_of(LIBRARY, self.memory, number)
         if outcome[0]:

@@ -68,7 +68,7 @@ def struct_of(arrays: Iterable[array[int]], *numbers: int) -> bytes:
     return struct.pack(f"Q{len(numbers)}I{len(flat)}Q", 8 + 4 * len(numbers) + 8 * len(flat), *numbers, *flat)
 
 
-def entry_of(library: Any, board: Any, number: int) -> Tuple[Outcome, Tuple[bytes, array[int], array[int]]]:
+def entry_of(library: Any, board: Any, number: int) -> tuple[Outcome, tuple[bytes, array[int], array[int]]]:
     """Reads an entry of a board: the outcome, and the entry's numbers, vertices and choices."""
     entry, report, rows = ctypes.create_string_buffer(ENTRY.size), REPORT(), 0
     while True:

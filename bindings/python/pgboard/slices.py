@@ -3,7 +3,7 @@
 from __future__ import annotations
 
 import time
-from typing import Callable, NamedTuple, Optional
+from typing import Callable, NamedTuple
 
 from .faults import Cancelled, GaveUp, TimedOut
 
@@ -27,11 +27,11 @@ class Cancel:
 class Limits(NamedTuple):
     """When a call is to end without a result: at this time of the monotonic clock, or after a `Cancel`."""
 
-    end: Optional[float] = None
-    cancel: Optional[Cancel] = None
+    end: float | None = None
+    cancel: Cancel | None = None
 
 
-def limits_of(timeout: Optional[float], cancel: Optional[Cancel]) -> Limits:
+def limits_of(timeout: float | None, cancel: Cancel | None) -> Limits:
     """The limits of a call that begins now; TypeError or ValueError for what are none."""
     if timeout is not None and (isinstance(timeout, bool) or not isinstance(timeout, (int, float))):
         raise TypeError(f"timeout is a number of seconds, not {type(timeout).__name__}")
@@ -59,7 +59,7 @@ class Slice(NamedTuple):
     seconds: float
 
 
-def advance(take: Callable[[int], Slice], vertices: int, limits: Limits, steps: Optional[int]) -> None:
+def advance(take: Callable[[int], Slice], vertices: int, limits: Limits, steps: int | None) -> None:
     """Takes slices of a game with so many vertices until nothing is left; `take` makes one of up to so many steps. Raises GaveUp if more
     than `steps` are needed, and TimedOut or Cancelled before a slice."""
     size, left = 1, steps

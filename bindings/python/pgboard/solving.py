@@ -2,9 +2,9 @@
 
 from __future__ import annotations
 
-import contextlib
 from array import array
-from typing import Iterator, List, Optional, Sequence
+from contextlib import closing
+from typing import Sequence
 
 from . import faults
 from .arrays import Solution
@@ -16,27 +16,18 @@ from .slices import Limits, advance, check
 SMALL = 512
 
 
-@contextlib.contextmanager
-def closing_board() -> Iterator[Handle]:
-    board = Handle()
-    try:
-        yield board
-    finally:
-        board.close()
-
-
 def blank(size: int) -> Solution:
     """Arrays for a solution of a game with so many vertices."""
     return Solution(array("B", bytes(size)), array("I", bytes(4 * size)))
 
 
-def solve_arrays(game: List[Ints], known: Optional[List[Ints]], steps: Optional[int], limits: Limits) -> Solution:
+def solve_arrays(game: list[Ints], known: list[Ints] | None, steps: int | None, limits: Limits) -> Solution:
     """A solution of a game, from what is known of it, or by a recursion of so many steps."""
     given = [game] if known is None else [game, known]
     if sum([len(it) * it.itemsize for group in given for it in group]) <= SMALL:
         check(limits)
         return at_once(given, steps)
-    with closing_board() as board:
+    with closing(Handle()) as board:
         try:
             board.open(game)
             if known is not None:
@@ -50,7 +41,7 @@ def solve_arrays(game: List[Ints], known: Optional[List[Ints]], steps: Optional[
     return found
 
 
-def at_once(given: Sequence[Sequence[Ints]], steps: Optional[int]) -> Solution:
+def at_once(given: Sequence[Sequence[Ints]], steps: int | None) -> Solution:
     """The solution by one call, which can't be ended."""
     found = blank(len(given[0][0]))
     structs = [struct_of(it) for it in (*given, found)]
@@ -80,7 +71,7 @@ def blank_text(game: Ints) -> Ints:
 
 def solve_bytes(game: Ints, limits: Limits) -> str:
     """The solution's text of a game's text."""
-    with closing_board() as board:
+    with closing(Handle()) as board:
         board.open_text(game)
         # (a vertex takes eight bytes or more)
         advance(board.advance, len(game) // 8, limits, None)

@@ -10,7 +10,6 @@ import shlex
 import shutil
 import sys
 import time
-from array import array
 from typing import NamedTuple, Optional
 
 from . import FILE, LATE, TEXT, Refused, child, in_memory, progress, shown
@@ -22,6 +21,16 @@ NO_PROGRAM = (
     "./pgboard --install proves one, or set PGBOARD"
 )
 VERDICT = re.compile(r"not a solution: ((?:no choice|bad choice|bad cycle) at \d+|\d+ leaves to \d+)\n")
+# what the program says of a fault, by its name in the library
+SAID = {
+    "NoChoice": "no choice at {}",
+    "BadChoice": "bad choice at {}",
+    "BadShape": "bad choice or none at {}",
+    **dict.fromkeys(("BadCycle", "ClaimCycle"), "bad cycle at {}"),
+    **dict.fromkeys(("Leaves", "Open"), "{} leaves to {}"),
+    "Lost": "{} is lost",
+    "Stale": "all of it is settled already",
+}
 # in seconds, how often a line of progress is shown
 PAUSE = 0.2
 
@@ -45,9 +54,9 @@ def engine():
     if os.environ.get("PGBOARD") and not os.environ.get("PGBOARD_LIBRARY"):
         return Program("PGBOARD names a program, and PGBOARD_LIBRARY no library")
     try:
-        from .. import solving
+        from .. import calls
 
-        return Library(solving)
+        return Library(calls)
     except ImportError as error:
         why = str(error).replace("pgboard: ", "", 1)
         if os.environ.get("PGBOARD_LIBRARY"):
@@ -85,114 +94,119 @@ def verdict(game, solution):
     return engine().verify(game, solution)
 
 
+class Table:
+    """A game in arrays, by its identifiers, for the calls of the library."""
+
+    # (all that it needs is loaded with it)
+    def __init__(self, game):
+        from .. import calls
+
+        self.calls, self.game, (self.ids, *self.arrays) = calls, game, game.arrays()
+        self.number = {id: v for v, id in enumerate(self.ids)}
+
+    def board(self):
+        return self.calls.Board.from_csr(*self.arrays)
+
+    def claim(self, player, rows):
+        """A player's part of a solution, as a board takes it: choices that he does not own are left out."""
+        is_chosen = lambda v, choice: choice is not None and self.arrays[0][v] == player
+        part = {self.number[id]: choice for id, (winner, choice) in rows.items() if winner == player}
+        none = len(self.ids)
+        return {v: self.number.get(it, none) if is_chosen(v, it) else None for v, it in part.items()}
+
+    def rows(self, state):
+        """The rows of a solution or of a part of one."""
+        choice = lambda it: None if it == self.calls.NO_CHOICE else self.ids[it]
+        each = zip(self.ids, *state)
+        return {id: (winner, choice(it)) for id, winner, it in each if winner != self.calls.NO_WINNER}
+
+    def said(self, fault, claim=()):
+        """What the program says of a fault; that of a claim may name one of its rows."""
+        at = sorted(claim)[fault.at] if isinstance(fault, self.calls.BadShape) else fault.at
+        return SAID[type(fault).__name__].format(self.ids[at], self.ids[fault.to])
+
+
 class Library:
     """Solves on a board, by slices."""
 
-    # (all that it needs is loaded with it)
-    def __init__(self, solving):
-        from .. import faults, library, slices
-
-        self.solving, self.faults, self.library, self.slices = solving, faults, library, slices
+    def __init__(self, calls):
         # a game that was made to arrays, which is verified after it is solved
-        self.last = None
-        self.words = {
-            faults.NoChoice: "no choice at {0}",
-            faults.BadChoice: "bad choice at {0}",
-            faults.Leaves: "{0} leaves to {1}",
-            faults.BadCycle: "bad cycle at {0}",
-            faults.BadShape: "bad choice or none at {0}",
-            faults.ClaimCycle: "bad cycle at {0}",
-            faults.Lost: "{0} is lost",
-            faults.Open: "{0} leaves to {1}",
-        }
+        self.calls, self.last = calls, None
 
-    def arrays(self, game):
-        """The identifiers in order, and the game as the library takes it."""
-        if not self.last or self.last[0] is not game:
-            ids, *arrays = game.arrays()
-            self.numbers, self.last = {id: v for v, id in enumerate(ids)}, (game, ids, arrays)
-        return self.last[1:]
-
-    def claims(self, ids, solution):
-        none = self.library.NO_WINNER, None
-        rows = [solution.rows.get(id, none) for id in ids]
-        return [
-            array("B", [it[0] for it in rows]),
-            array("I", [self.library.NO_CHOICE if it[1] is None else self.numbers[it[1]] for it in rows]),
-        ]
-
-    def said(self, fault, ids, row=None):
-        """What the program says of a fault, and the vertex that it is about, which a claim may name by its
-        row.
-        """
-        at = fault.at if row is None else row
-        return (
-            self.words[type(fault)].format(*(ids[it] if it < len(ids) else "" for it in (at, fault.to))),
-            ids[at],
-        )
+    def table(self, game):
+        if not self.last or self.last.game is not game:
+            self.last = Table(game)
+        return self.last
 
     def solve(self, game, known, timeout, partial, until):
-        limits = self.slices.Limits(None if timeout is None else time.monotonic() + timeout)
-        ids, arrays = self.arrays(game)
-        with self.solving.closing_board() as board:
-            board.open(arrays)
-            if known:
-                self.post(board, ids, arrays[0], known)
-            is_whole = self.advance(board, limits, len(ids), self.numbers.get(until))
-            found = self.solving.blank(len(ids))
-            board.write("solution" if is_whole else "state", found)
-            entries = board.count("entries")
-        rows = {}
-        for id, winner, choice in zip(ids, *found):
-            if winner != self.library.NO_WINNER:
-                rows[id] = winner, None if choice == self.library.NO_CHOICE else ids[choice]
+        table = self.table(game)
+        with table.board() as board:
+            for player in (0, 1) if known else ():
+                claim = table.claim(player, known.rows)
+                try:
+                    claim and board.post(player, claim)
+                except self.calls.RefusedClaim as fault:
+                    refuse_known(known, table.said(fault, claim))
+            board._advance = watched(board, len(table.ids), table.number.get(until))
+            with contextlib.suppress(self.calls.TimedOut):
+                board.finish(timeout=timeout)
+            rows, entries = table.rows(board.state()), len(board.entries)
+        is_whole = len(rows) == len(table.ids)
         if not is_whole and not partial and until not in rows:
-            raise Refused(f"after {timeout:g} s {len(rows)} of {len(ids)} vertices are settled", LATE)
+            raise Refused(f"after {timeout:g} s {len(rows)} of {len(table.ids)} vertices are settled", LATE)
         return Solution(rows), is_whole, entries
 
-    def post(self, board, ids, owners, known):
-        """Posts what Even and then what Odd is known to win."""
-        for player in (0, 1):
-            vertices = array("I", [v for v, id in enumerate(ids) if known.rows.get(id, [None])[0] == player])
-            choices = [known.rows[ids[v]][1] if owners[v] == player else None for v in vertices]
-            moves = array("I", [self.library.NO_CHOICE if it is None else self.numbers[it] for it in choices])
-            try:
-                if vertices:
-                    board.post(0, player, (vertices, moves))
-            except self.faults.RefusedClaim as fault:
-                said, id = self.said(
-                    fault, ids, vertices[fault.at] if isinstance(fault, self.faults.BadShape) else None
-                )
-                known.refuse(id, f"known: {said}", 1)
-
-    def advance(self, board, limits, count, until):
-        """Settles what can be settled within the limits, or a vertex, and says whether it is all."""
-        begun, shown_at, seen = time.monotonic(), 0, 0
-
-        def take(steps):
-            nonlocal shown_at, seen
-            done, now, settled = board.advance(steps), time.monotonic(), board.count("settled")
-            if now - shown_at >= PAUSE:
-                shown_at = now
-                progress(f"pgboard: {settled:,} of {count:,} vertices settled, {int(now - begun)} s")
-            if until is not None and settled > seen:
-                state, seen = self.solving.blank(count), settled
-                board.write("state", state)
-                done = done._replace(is_last=done.is_last or state.winners[until] != self.library.NO_WINNER)
-            return done
-
-        with contextlib.suppress(self.faults.TimedOut):
-            self.slices.advance(take, count, limits, None)
-        return board.count("settled") == count
+    def solve_bytes(self, data, timeout):
+        """A solution's text, which is verified; None where more is said of the search."""
+        if timeout is not None or sys.stderr.isatty():
+            return None
+        text = self.of_texts(self.calls.solve_text, data)
+        check(self.verify_bytes(data, text.encode()))
+        return text
 
     def verify(self, game, solution):
-        ids, arrays = self.arrays(game)
-        claims = self.claims(ids, solution)
+        table = self.table(game)
+        rows = [solution.rows.get(id, (self.calls.NO_WINNER, None)) for id in table.ids]
+        choices = [self.calls.NO_CHOICE if it is None else table.number[it] for _, it in rows]
         try:
-            self.library.run("pgboard_check", self.solving.struct_of(arrays), self.solving.struct_of(claims))
-        except self.faults.NotASolution as fault:
-            return self.said(fault, ids)[0]
+            self.calls.verify_csr(*table.arrays, [winner for winner, _ in rows], choices)
+        except self.calls.NotASolution as fault:
+            return table.said(fault)
         return "ok"
+
+    def verify_bytes(self, *texts):
+        try:
+            self.of_texts(self.calls.verify_text, *texts)
+        except self.calls.NotASolution as fault:
+            return SAID[type(fault).__name__].format(fault.at, fault.to)
+        return "ok"
+
+    def of_texts(self, call, *texts):
+        try:
+            return call(*map(bytes, texts))
+        except self.calls.Refused as fault:
+            raise Refused(str(fault)) from None
+
+
+def watched(board, count, until):
+    """Takes a slice of a board, and shows how far it is; the last one where it settles the vertex `until`."""
+    take, begun, shown_at = board._advance, time.monotonic(), 0
+
+    def slice_of(steps):
+        nonlocal shown_at
+        done, now = take(steps), time.monotonic()
+        if now - shown_at >= PAUSE:
+            shown_at = now
+            progress(f"pgboard: {board.settled:,} of {count:,} vertices settled, {int(now - begun)} s")
+        is_last = done.is_last or until is not None and board.winner(until) is not None
+        return done._replace(is_last=is_last)
+
+    return slice_of
+
+
+def refuse_known(known, said):
+    """Refuses what is known, for what is said of the first vertex that is named."""
+    known.refuse(int(re.search(r"\d+", said)[0]), f"known: {said}", 1)
 
 
 class Program:
@@ -236,9 +250,9 @@ class Program:
             raise Refused(f"--partial needs the library. {self.why}", FILE)
         words = ["--known", data_of(known)] if known else []
         status, text, said = self.solution(timeout, *words, data_of(plain(game)))
-        fault = re.fullmatch(r"pgboard: (known: (?:\D* at )?(\d+).*)\n", said)
+        fault = re.fullmatch(r"pgboard: known: (.*\d.*)\n", said)
         if status and known and fault:
-            known.refuse(int(fault[2]), fault[1], 1)
+            refuse_known(known, fault[1])
         if status:
             self.refuse(status, said, FILE)
         sys.stderr.write(said)
@@ -268,15 +282,12 @@ class Program:
 
 
 def as_it_is(name, *given):
-    """What a call of the program gives for the bytes of files, or None where the library is called, or where
-    the program refuses what this command may read.
-    """
-    if isinstance(engine(), Program):
-        try:
-            return getattr(engine(), name)(*given)
-        except Refused as refused:
-            if refused.status != TEXT:
-                raise
+    """What pgboard gives for the bytes of files, or None where it refuses what this command may read."""
+    try:
+        return getattr(engine(), name)(*given)
+    except Refused as refused:
+        if refused.status != TEXT:
+            raise
     return None
 
 

@@ -33,6 +33,9 @@ class Claim:
         """The successors to which a play may go on, where the winner of a vertex keeps to his choices."""
         return [self.choice(id)] if self.winner(id) == self.owner(id) else self.game.rows[id][2]
 
+    def moves(self, id):
+        return "chooses" if self.winner(id) == self.owner(id) else "may move to"
+
     def closed_walk(self, start):
         """A shortest closed walk of kept edges through a vertex, on which no priority is greater than the
         vertex's own.
@@ -67,10 +70,9 @@ def cycle(claim, id):
     ]
     edges = list(zip(walk, [*walk[1:], walk[0]]))
     for at, to in edges:
-        move = "chooses" if claim.owner(at) == claim.winner(at) else "may move to"
         mark = f"   <- the {game.decides}, and {other}'s" if at == id else ""
         lines.append(
-            f"  {game.called(at)}: priority {game.priority(at)}, {PLAYERS[claim.owner(at)]} {move} {to}{mark}"
+            f"  {game.called(at)}: priority {game.priority(at)}, {PLAYERS[claim.owner(at)]} {claim.moves(at)} {to}{mark}"
         )
     return lines, edges
 
@@ -82,8 +84,7 @@ def leaving(claim, id, to):
         f"{winner} is said to win {called(id)} (line {line(id)} of the solution), "
         f"and {other} {called(to)} (line {line(to)})."
     ]
-    move = "chooses" if owner == claim.winner(id) else "may move to"
-    lines.append(f"  {id} -> {to}: {PLAYERS[owner]} owns {id}, and {move} {to}")
+    lines.append(f"  {id} -> {to}: {PLAYERS[owner]} owns {id}, and {claim.moves(id)} {to}")
     inside = [it for it in claim.successors(id) if claim.winner(it) == claim.winner(id)]
     lines.append(
         f"Successors of {id} that {winner} is said to win: {', '.join(map(called, inside)) or 'none'}"
@@ -91,20 +92,14 @@ def leaving(claim, id, to):
     return lines, [(id, to)]
 
 
-def at_dead_end(claim, id):
-    winner = PLAYERS[claim.winner(id)]
-    line = f"Line {claim.solution.line(id)} of the solution says that {winner} wins {claim.game.called(id)}"
-    return [f"{line}, which {winner} owns. It has no successor, so {winner} loses there."], [(id, id)]
-
-
 def choosing(claim, id):
-    choice, winner = claim.choice(id), PLAYERS[claim.winner(id)]
+    choice, winner, called = claim.choice(id), PLAYERS[claim.winner(id)], claim.game.called
+    line = f"Line {claim.solution.line(id)} of the solution says that {winner} wins {called(id)}, which {winner} owns"
+    if id in claim.game.dead:
+        return [f"{line}. It has no successor, so {winner} loses there."], [(id, id)]
     names = "names no choice" if choice is None else f"names {choice}, which is no successor"
-    line = f"Line {claim.solution.line(id)} of the solution says that {winner} wins {claim.game.called(id)}"
-    said = ", ".join(
-        f"{claim.game.called(it)} (said to be {PLAYERS[claim.winner(it)]}'s)" for it in claim.successors(id)
-    )
-    lines = [f"{line}, which {winner} owns, and {names}.", f"Successors of {id}: {said}"]
+    said = (f"{called(it)} (said to be {PLAYERS[claim.winner(it)]}'s)" for it in claim.successors(id))
+    lines = [f"{line}, and {names}.", f"Successors of {id}: {', '.join(said)}"]
     return lines, [(id, to) for to in claim.successors(id)]
 
 
@@ -122,7 +117,7 @@ def explained(claim, verdict):
         found = re.fullmatch(form, verdict)
         if found:
             places = [*map(int, found.groups())]
-            return (at_dead_end if places[0] in claim.game.dead else how)(claim, *places)
+            return (choosing if places[0] in claim.game.dead else how)(claim, *places)
     raise Refused(f"this is no verdict of pgboard's: {verdict}", FILE)
 
 

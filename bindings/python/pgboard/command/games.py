@@ -11,9 +11,9 @@ import re
 from array import array
 
 from . import TEXT, WORDS, Refused, called, line_of, printable
-from .texts import Statement, Text, text_of
+from .texts import MOST, Statement, Text, text_of
 
-MOST_VERTICES, MOST_EDGES, MOST = 1_048_576, 16_777_216, 2_147_483_647
+MOST_VERTICES, MOST_EDGES = 1_048_576, 16_777_216
 PLAYERS = ("Even", "Odd")
 # (before a semicolon the name ends, and its last letter is a backslash)
 NAME = rf'"(?:[^"]|(?<=\\)"(?!{Statement.blank};))*"'
@@ -62,6 +62,8 @@ def refuse_statement(text, at, line, *headers):
     found = TOKEN.match(text.text, at)
     if found[0] == '"':
         text.refuse("this quote is never closed", at)
+    if found[0].isdigit() and what.endswith(", 0 or 1"):
+        text.refuse(f"{what.split()[1][:-1]} is not 0 or 1", at)
     text.expect(what, at, found.end())
 
 
@@ -182,7 +184,7 @@ class Game:
 
     def numbers(self, found, to):
         for it in re.finditer("[0-9]+", to or ""):
-            yield self.source.number(it[0], found.start(4) + it.start(), MOST)
+            yield self.source.number(it[0], found.start(4) + it.start())
 
     def set_start(self, found):
         start = number_of(self.source, found, 2)
@@ -340,4 +342,4 @@ def solution_of(path, text):
 
 def number_of(text, found, group):
     """The number of a group of a match."""
-    return None if found[group] is None else text.number(found[group], found.start(group), MOST)
+    return None if found[group] is None else text.number(found[group], found.start(group))

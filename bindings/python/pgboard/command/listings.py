@@ -9,7 +9,7 @@ Lines between parts are passed over.
 
 import re
 
-from .games import MOST, NUMBER, TOKEN, Solution
+from .games import NUMBER, TOKEN, Solution
 from .texts import Text
 
 BEGINS = r"[^\w\n]*(?:player|won by|winner)[^\w\n]*(0|1|even|odd)\b"
@@ -88,7 +88,7 @@ class Listing(Text):
         if not found:
             self.wants("a vertex")
         self.at = found.end()
-        return super().number(found[0], at, MOST), at
+        return super().number(found[0], at), at
 
     def vertex(self, player):
         id, at = self.number()

@@ -17,6 +17,8 @@ from . import Refused, begun, called, in_memory, pieces, read, shown
 # how packed files begin, and the module that unpacks them; `zstd` is a command
 PACKED = {b"\x1f\x8b": "gzip", b"BZh": "bz2", b"\xfd7zXZ\0": "lzma", b"\x28\xb5\x2f\xfd": "zstd"}
 UTF_16 = "it is UTF-16: `iconv -f UTF-16 -t UTF-8` turns it into UTF-8"
+# the greatest number
+MOST = 2_147_483_647
 # these operators join from the right, and all others from the left
 FROM_THE_RIGHT = ("=>", ".")
 
@@ -86,13 +88,13 @@ class Text:
             begins, found = min(begins, len(self.text.rstrip())), "the end of the text"
         self.refuse(f"expected {wanted}, found {found}", begins)
 
-    def number(self, digits, at, most):
+    def number(self, digits, at):
         """The number of these digits at a place."""
         if len(digits) > 9:
             # (`int` refuses thousands of zeros)
             digits = digits.lstrip("0") or "0"
-            if len(digits) > 10 or int(digits) > most:
-                self.refuse(f"this number is above {most}", at)
+            if len(digits) > 10 or int(digits) > MOST:
+                self.refuse("number too large", at)
         return int(digits)
 
 

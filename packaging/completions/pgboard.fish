@@ -2,7 +2,8 @@
 function __pgboard_words
     set -l before (commandline -opc)
     set -l help (command $before[1] (string match -r '^(?!help$)[a-z]+$' -- $before[2]) -h 2>/dev/null)
-    set -l numbers (string replace -rf "^ +$before[-1] <.* (\d+) to (\d+).*" '$1\n$2' -- $help)
+    set -l flag (string escape --style=regex -- $before[-1])
+    set -l numbers (string replace -rf "^ +$flag <.* (\d+) to (\d+).*" '$1\n$2' -- $help)
     if set -q numbers[1]
         seq $numbers
     else if string match -q -- '-*' (commandline -ct)
