@@ -4,7 +4,6 @@
 //   solve, known    pgboard_solve, and pgboard_solve_known where nothing is known
 //   make            what pgboard_solve does before it solves: a call that is refused, after it has made the game of its arrays
 
-#include <algorithm>
 #include <cstdlib>
 #include <ctime>
 #include <fstream>
@@ -25,35 +24,8 @@ static const char *const USAGE = "usage: library solve|known|make GAME";
 }
 
 struct Game : pgboard::game {
-    Numbers ids;
-
     uint32_t size() const { return static_cast<uint32_t>(ids.size()); }
 };
-
-// The game of a text, which the library brings into one form: a line for each vertex, by rising identifier.
-static Game read(const std::string &text)
-{
-    const std::string tidy = pgboard::tidy_text(text);
-    const char *at = tidy.c_str() + tidy.find('\n');
-    auto number = [&at] {
-        char *end;
-        const uint32_t value = static_cast<uint32_t>(std::strtoul(at, &end, 10));
-        at = end + 1;
-        return value;
-    };
-    Game game;
-    for (game.starts = {0}; at[1]; game.starts.push_back(static_cast<uint32_t>(game.targets.size()))) {
-        game.ids.push_back(number());
-        game.priorities.push_back(number());
-        game.owners.push_back(static_cast<uint8_t>(number()));
-        do
-            game.targets.push_back(number());
-        while (at[-1] == ',');
-    }
-    for (uint32_t &w : game.targets)
-        w = static_cast<uint32_t>(std::lower_bound(game.ids.begin(), game.ids.end(), w) - game.ids.begin());
-    return game;
-}
 
 static std::string text_of(const Game &game, const pgboard::solution &solution)
 {
@@ -100,7 +72,8 @@ try {
     if (count != 3)
         stop(USAGE);
     std::ifstream file(words[2], std::ios::binary);
-    const Game game = read({std::istreambuf_iterator<char>(file), {}});
+    const std::string text(std::istreambuf_iterator<char>(file), {});
+    const Game game{pgboard::board::open_text(text).game()};
     const double begun = milliseconds(CLOCK_MONOTONIC), used = milliseconds(CLOCK_PROCESS_CPUTIME_ID);
     const pgboard::solution solution = solved(game, words[1]);
     std::cerr << milliseconds(CLOCK_MONOTONIC) - begun << " " << milliseconds(CLOCK_PROCESS_CPUTIME_ID) - used << "\n";

@@ -2,7 +2,8 @@
  *
  * Each call with a `report` returns a number: 0, or one of those below. If it is 0, both fields of `report` are 0. Else `report` says
  * where the fault is, and the call writes nothing but `report`; pgboard_board_advance may have written more. No pointer may be
- * null, even with length 0. No array or struct that a call writes may overlap another.
+ * null, even with length 0: the proofs take a pointer and a length as an array, and each array has an address. No array or struct
+ * that a call writes may overlap another.
  *
  * The calls start no thread, wait for nothing and keep nothing but open boards. Several threads may make calls at once. They may
  * share what a call only reads, such as a game; each needs its own results and report, and its turn at a board. No thread may
@@ -114,14 +115,15 @@ uint32_t pgboard_version(void);
 #define PGBOARD_SOLUTION_TWICE 46u    /* (the identifier) */
 #define PGBOARD_SOLUTION_MISSING 47u  /* (the identifier) */
 
-/* the text, or the entry of a board, that a call writes */
-#define PGBOARD_CAPACITY 50u /* (the size of the text; the number of rows) */
+/* the text, or the entry or vertex of a board, that a call writes */
+#define PGBOARD_CAPACITY 50u /* (the size of the text; the number of rows or of successors) */
 
 /* a board */
 #define PGBOARD_BOARD_OPEN 70u      /* the board is open already */
 #define PGBOARD_BOARD_CLOSED 71u    /* the board is not open */
 #define PGBOARD_BOARD_ENTRY 72u     /* no entry has this number (the number of entries) */
 #define PGBOARD_BOARD_UNSETTLED 73u /* the board is not full (the number of unsettled vertices) */
+#define PGBOARD_BOARD_VERTEX 74u    /* no vertex has this number (the number of vertices) */
 
 /* a claim that is posted */
 #define PGBOARD_POST_PLAYER 80u  /* the player is neither 0 nor 1 (the player) */
@@ -136,7 +138,7 @@ uint32_t pgboard_version(void);
                                   * that is neither in the claim nor settled for the player (from, to) */
 
 /* a bound on the recursion */
-#define PGBOARD_GAVE_UP 90u /* it needs more steps than the call allows; of pgboard_board_advance: something is left to settle */
+#define PGBOARD_GAVE_UP 90u /* it needs more steps than the call allows */
 
 /* The array or struct of an answer. */
 #define PGBOARD_ARRAY_PRIORITIES 1u
@@ -149,7 +151,8 @@ uint32_t pgboard_version(void);
 #define PGBOARD_STRUCT_RESULTS 3u
 #define PGBOARD_STRUCT_CLAIM 4u
 
-/* The report of a call, beside its answer. */
+/* The report of a call, beside its answer. This struct, `posted`, `entry` and `vertex` have no `size`: a call writes the whole of each,
+ * so a later version that says more has a call of its own for it. */
 struct pgboard_report {
     uint64_t at;
     uint64_t to;
@@ -235,20 +238,23 @@ uint32_t pgboard_verify_text(const uint8_t *game, size_t game_len, const uint8_t
  * So each settled vertex has its right winner, whatever is posted, by whom and in which order. Each post that settles something
  * is an entry of the board's journal. Entries are numbered from 0.
  *
- * Set the struct to zero before the first call: that is a closed board. Never look into it. To move an open board, copy its struct
- * and set the old one to zero: an open board may not have two. After any answer but PGBOARD_OK the board is unchanged, except after
- * pgboard_board_advance. No two calls may use a board at once, not even calls that only read. Threads that share a board take
- * turns:
+ * The struct is PGBOARD_BOARD before the first call, or zero, which is the same: a closed board. Never look into it. To move an open
+ * board, copy its struct and set the old one to PGBOARD_BOARD: an open board may not have two. After any answer but PGBOARD_OK the
+ * board is unchanged, except after pgboard_board_advance. No two calls may use a board at once, not even calls that only read, since
+ * each takes the board out of the struct meanwhile. So they all take a pointer to a struct that is not const. Threads that share a
+ * board take turns:
  *
  *     static pthread_mutex_t turn = PTHREAD_MUTEX_INITIALIZER;
  *     pthread_mutex_lock(&turn);
  *     answer = pgboard_board_post(&board, &claim, &posted, &report);
  *     pthread_mutex_unlock(&turn);
- */
+ *
+ * (The struct is the caller's, and no pointer to one that the library makes: no call of the library returns a pointer.) */
 struct pgboard_board {
     void *at;
     unsigned char live;
 };
+#define PGBOARD_BOARD {0, 0}
 
 /* A claim: the player (0 Even, 1 Odd) wins these vertices, which rise, by these choices. A choice is a successor where the player
  * owns the vertex, and else PGBOARD_NO_CHOICE. It need not be closed: it may lead to what is settled for the player. `worker` is
@@ -278,6 +284,14 @@ struct pgboard_entry {
     uint64_t rows;
 };
 
+/* A vertex of a board's game: its identifier, its priority, its owner (0 Even, 1 Odd), and how many successors it has. */
+struct pgboard_vertex {
+    uint32_t id;
+    uint32_t priority;
+    uint32_t owner;
+    uint32_t successors;
+};
+
 /* Opens a board of a game, on which nothing is settled. The game is copied. The faults are PGBOARD_BOARD_OPEN, those of a
  * game and PGBOARD_MEMORY. */
 PGBOARD_CALL
@@ -301,11 +315,21 @@ uint32_t pgboard_board_post(struct pgboard_board *board, const struct pgboard_cl
 PGBOARD_CALL
 uint32_t pgboard_board_state(struct pgboard_board *board, struct pgboard_results *results, struct pgboard_report *report);
 
-/* The number of settled vertices, and of entries; 0 of a closed board. */
+/* The number of vertices, of settled vertices, and of entries; 0 of a closed board. */
+PGBOARD_CALL
+uint64_t pgboard_board_vertices(struct pgboard_board *board);
 PGBOARD_CALL
 uint64_t pgboard_board_settled(struct pgboard_board *board);
 PGBOARD_CALL
 uint64_t pgboard_board_entries(struct pgboard_board *board);
+
+/* Reads a vertex of the board's game: its numbers, and its successors at the front of the array. These are vertices, each once, and
+ * rise. A vertex is a number from 0 on also where a text has other identifiers. The faults are PGBOARD_BOARD_CLOSED,
+ * PGBOARD_BOARD_VERTEX, and PGBOARD_CAPACITY if the array is shorter than the successors. As many places as the game has vertices
+ * suffice. */
+PGBOARD_CALL
+uint32_t pgboard_board_vertex(struct pgboard_board *board, uint32_t number, struct pgboard_vertex *vertex, uint32_t *successors,
+                              size_t successors_len, struct pgboard_report *report);
 
 /* Reads an entry: its numbers, and its rows at the front of the two arrays. The faults are PGBOARD_BOARD_CLOSED,
  * PGBOARD_BOARD_ENTRY, and PGBOARD_CAPACITY if an array is shorter than the rows. As many places as the game has vertices
@@ -326,9 +350,9 @@ uint32_t pgboard_board_finish_within(struct pgboard_board *board, uint64_t steps
 
 /* Settles more of what is left, by posts of worker 0; tests show that they are those of pgboard_board_finish, in the same order. A
  * call makes one search or, after the last search, takes up to `*steps` steps of the recursion. It leaves in `*steps` the number
- * of steps that it did not take: a search takes none, and a call of the recursion that answers PGBOARD_GAVE_UP takes all, so a
- * program can bound their sum. The answer is PGBOARD_OK once all is settled, and before that PGBOARD_GAVE_UP, which is no fault
- * here. What is settled stays, whatever the answer. The next call goes on where this one ended. If a post was accepted in between,
+ * of steps that it did not take: a search takes none, and a call of the recursion that leaves something unsettled takes all, so a
+ * program can bound their sum. The answer is PGBOARD_OK once all is settled, and before that PGBOARD_BOARD_UNSETTLED, which is no
+ * fault here. What is settled stays, whatever the answer. The next call goes on where this one ended. If a post was accepted in between,
  * or memory was refused, it begins anew. So a program can do something else between two calls, or stop. Memory aside, a loop of
  * calls with at least one step each, and finitely many accepted posts between them, ends. The faults are PGBOARD_BOARD_CLOSED and
  * PGBOARD_MEMORY. */

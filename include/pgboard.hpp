@@ -1,5 +1,5 @@
 // pgboard.h for C++17: arrays and texts in, results or an exception out. The calls whose names begin with `try_` return each answer
-// of the library, and throw nothing for it.
+// of the library, and throw nothing for it; a vector or a string of the result may still throw std::bad_alloc.
 #ifndef PGBOARD_HPP
 #define PGBOARD_HPP
 
@@ -23,32 +23,52 @@
 
 namespace pgboard {
 
-// Why there is no result: an answer of pgboard.h, and what its report says. Refused memory is a std::bad_alloc instead.
+namespace detail {
+
+// How many fields of its report each answer has, by its number; tools/faults makes this line.
+inline constexpr std::string_view fields = "0011111112001102000011210000000111100000011111110010000000001112000000001110000012111020000";
+
+// The text of an answer, and in brackets what its report says.
+inline std::string said(std::uint32_t answer, const pgboard_report &report)
+{
+    const char count = answer < fields.size() ? fields[answer] : '0';
+    std::string text = pgboard_strerror(answer);
+    if (count > '0')
+        text += " (" + std::to_string(report.at) + (count > '1' ? ", " + std::to_string(report.to) : "") + ")";
+    return text;
+}
+
+} // namespace detail
+
+// Why there is no result: an answer of pgboard.h, and what its report says, which what() has too. Refused memory is a std::bad_alloc
+// instead.
 struct fault : std::runtime_error {
     std::uint32_t answer;
     std::uint64_t at, to;
 
     fault(std::uint32_t number, const pgboard_report &report)
-        : std::runtime_error(pgboard_strerror(number)), answer(number), at(report.at), to(report.to)
+        : std::runtime_error(detail::said(number, report)), answer(number), at(report.at), to(report.to)
     {
     }
 };
 
-// A pointer and a length, as std::span of C++20: of a vector, a std::span, an array of C or of C++, or a list. It has to be there during
-// the call.
+// A pointer and a length, as std::span of C++20: of a vector, a std::span, or an array of C or of C++. What it refers to has to be
+// there during the call.
 template <class Item> class span {
   public:
     span() = default;
-    span(Item *first, std::size_t length) : first(first), length(length) {}
-    span(std::initializer_list<Item> items) : span(items.begin(), items.size()) {}
-    template <std::size_t Count> span(Item (&items)[Count]) : span(items, Count) {}
+    template <class First, class = std::enable_if_t<std::is_convertible_v<First, Item *>>>
+    span(First first, std::size_t length) noexcept : first(first), length(length)
+    {
+    }
+    template <std::size_t Count> span(Item (&items)[Count]) noexcept : span(&items[0], Count) {}
     template <class Items, class = std::enable_if_t<std::is_convertible_v<decltype(std::declval<const Items &>().data()), Item *>>>
-    span(const Items &items) : first(items.data()), length(items.size())
+    span(const Items &items) noexcept : span(items.data(), items.size())
     {
     }
     // (an empty vector may have no address, and the calls take none that is null)
-    Item *data() const { return first ? first : &nothing; }
-    std::size_t size() const { return length; }
+    Item *data() const noexcept { return first ? first : &nothing; }
+    std::size_t size() const noexcept { return length; }
 
   private:
     static constexpr std::remove_const_t<Item> nothing{};
@@ -60,6 +80,8 @@ template <class Item> class span {
 struct game {
     std::vector<std::uint8_t> owners;
     std::vector<std::uint32_t> priorities, starts, targets;
+    // the identifiers of a board's game; the calls that take a game need none
+    std::vector<std::uint32_t> ids{};
 };
 
 // Winners and choices; of what is known of a game, or the result.
@@ -68,14 +90,14 @@ struct solution {
     std::vector<std::uint32_t> choices;
 };
 
-// The same, which others hold.
+// The same, which others hold. A view may be kept as long as they are there.
 struct game_view {
     span<const std::uint8_t> owners;
     span<const std::uint32_t> priorities, starts, targets;
 
     game_view() = default;
-    game_view(const game &it) : game_view(it.owners, it.priorities, it.starts, it.targets) {}
-    game_view(span<const std::uint8_t> owners, span<const std::uint32_t> priorities, span<const std::uint32_t> starts, span<const std::uint32_t> targets)
+    game_view(const game &it) noexcept : game_view(it.owners, it.priorities, it.starts, it.targets) {}
+    game_view(span<const std::uint8_t> owners, span<const std::uint32_t> priorities, span<const std::uint32_t> starts, span<const std::uint32_t> targets) noexcept
         : owners(owners), priorities(priorities), starts(starts), targets(targets)
     {
     }
@@ -85,17 +107,24 @@ struct solution_view {
     span<const std::uint8_t> winners;
     span<const std::uint32_t> choices;
 
-    solution_view(const solution &it) : solution_view(it.winners, it.choices) {}
-    solution_view(span<const std::uint8_t> winners, span<const std::uint32_t> choices) : winners(winners), choices(choices) {}
+    solution_view(const solution &it) noexcept : solution_view(it.winners, it.choices) {}
+    solution_view(span<const std::uint8_t> winners, span<const std::uint32_t> choices) noexcept : winners(winners), choices(choices) {}
 };
 
 // An answer of pgboard.h, its report, and the value if the answer is PGBOARD_OK.
-template <class Value> struct outcome {
+template <class Value = void> struct [[nodiscard]] outcome {
     std::uint32_t answer;
     pgboard_report report;
     Value value;
 
-    explicit operator bool() const { return answer == PGBOARD_OK; }
+    explicit operator bool() const noexcept { return answer == PGBOARD_OK; }
+};
+
+template <> struct [[nodiscard]] outcome<void> {
+    std::uint32_t answer;
+    pgboard_report report;
+
+    explicit operator bool() const noexcept { return answer == PGBOARD_OK; }
 };
 
 namespace detail {
@@ -111,16 +140,17 @@ inline void judge(std::uint32_t answer, const pgboard_report &report)
 template <class Value> Value judged(outcome<Value> &&found)
 {
     judge(found.answer, found.report);
-    return std::move(found.value);
+    if constexpr (!std::is_void_v<Value>)
+        return std::move(found.value);
 }
 
-inline pgboard_game arrays(const game_view &it)
+inline pgboard_game arrays(const game_view &it) noexcept
 {
     return {sizeof(pgboard_game),     it.owners.data(), it.owners.size(),  it.priorities.data(), it.priorities.size(),
             it.starts.data(), it.starts.size(), it.targets.data(), it.targets.size()};
 }
 
-inline pgboard_solution arrays(const solution_view &it)
+inline pgboard_solution arrays(const solution_view &it) noexcept
 {
     return {sizeof(pgboard_solution), it.winners.data(), it.winners.size(), it.choices.data(), it.choices.size()};
 }
@@ -138,19 +168,19 @@ template <class Call> outcome<solution> written(std::size_t size, Call call)
     return found;
 }
 
-inline const std::uint8_t *bytes(std::string_view text)
+inline const std::uint8_t *bytes(std::string_view text) noexcept
 {
     return reinterpret_cast<const std::uint8_t *>(text.data() ? text.data() : "");
 }
 
-template <class Call> std::string text_by(Call call, std::string_view text)
+template <class Call> outcome<std::string> text_by(Call call, std::string_view text)
 {
-    std::string into(PGBOARD_TEXT_BOUND(text.size()), '\0');
+    outcome<std::string> found{PGBOARD_OK, {}, std::string(PGBOARD_TEXT_BOUND(text.size()), '\0')};
+    std::string &into = found.value;
     std::size_t size = 0;
-    pgboard_report report;
-    judge(call(bytes(text), text.size(), reinterpret_cast<std::uint8_t *>(into.data()), into.size(), &size, &report), report);
+    found.answer = call(bytes(text), text.size(), reinterpret_cast<std::uint8_t *>(into.data()), into.size(), &size, &found.report);
     into.resize(size);
-    return into;
+    return found;
 }
 
 } // namespace detail
@@ -182,31 +212,49 @@ inline solution solve(const game_view &game, const solution_view &known)
 }
 
 // Checks that winners and choices are a solution of a game; a fault says what is wrong first.
-inline void check(const game_view &game, const solution_view &solution)
+inline outcome<> try_check(const game_view &game, const solution_view &solution) noexcept
 {
     const pgboard_game arrays = detail::arrays(game);
     const pgboard_solution given = detail::arrays(solution);
-    pgboard_report report;
-    detail::judge(pgboard_check(&arrays, &given, &report), report);
+    outcome<> found{};
+    found.answer = pgboard_check(&arrays, &given, &found.report);
+    return found;
+}
+inline void check(const game_view &game, const solution_view &solution)
+{
+    detail::judged(try_check(game, solution));
 }
 
 // The text of a solution of a game's text.
-inline std::string solve_text(std::string_view game)
+inline outcome<std::string> try_solve_text(std::string_view game)
 {
     return detail::text_by(pgboard_solve_text, game);
 }
+inline std::string solve_text(std::string_view game)
+{
+    return detail::judged(try_solve_text(game));
+}
 
 // The one written form of a game's text.
-inline std::string tidy_text(std::string_view game)
+inline outcome<std::string> try_tidy_text(std::string_view game)
 {
     return detail::text_by(pgboard_tidy_text, game);
 }
+inline std::string tidy_text(std::string_view game)
+{
+    return detail::judged(try_tidy_text(game));
+}
 
 // Checks that a text is a solution of a game's text; a fault says what is wrong first.
+inline outcome<> try_verify_text(std::string_view game, std::string_view solution) noexcept
+{
+    outcome<> found{};
+    found.answer = pgboard_verify_text(detail::bytes(game), game.size(), detail::bytes(solution), solution.size(), &found.report);
+    return found;
+}
 inline void verify_text(std::string_view game, std::string_view solution)
 {
-    pgboard_report report;
-    detail::judge(pgboard_verify_text(detail::bytes(game), game.size(), detail::bytes(solution), solution.size(), &report), report);
+    detail::judged(try_verify_text(game, solution));
 }
 
 // An entry of a board's journal; the first `claimed` vertices were claimed.
@@ -233,36 +281,38 @@ class journal {
             const entry *operator->() const { return &it; }
         };
 
-        iterator(const board *of, std::uint64_t number) : of(of), number(number) {}
+        iterator(const board *of, std::uint64_t number) noexcept : of(of), number(number) {}
         entry operator*() const;
         pointer operator->() const { return {**this}; }
-        iterator &operator++() { return number++, *this; }
-        iterator operator++(int) { return {of, number++}; }
+        iterator &operator++() noexcept { return number++, *this; }
+        iterator operator++(int) noexcept { return {of, number++}; }
         // (the end is where no entry is left)
-        bool operator==(const iterator &other) const { return at() == other.at(); }
-        bool operator!=(const iterator &other) const { return !(*this == other); }
+        bool operator==(const iterator &other) const noexcept { return at() == other.at(); }
+        bool operator!=(const iterator &other) const noexcept { return !(*this == other); }
 
       private:
-        std::uint64_t at() const;
+        std::uint64_t at() const noexcept;
         const board *of;
         std::uint64_t number;
     };
 
-    explicit journal(const board &of) : of(&of) {}
-    iterator begin() const { return {of, 0}; }
-    iterator end() const { return {of, UINT64_MAX}; }
-    std::uint64_t size() const;
+    explicit journal(const board &of) noexcept : of(&of) {}
+    iterator begin() const noexcept { return {of, 0}; }
+    iterator end() const noexcept { return {of, UINT64_MAX}; }
+    std::uint64_t size() const noexcept;
     entry operator[](std::uint64_t number) const;
 
   private:
     const board *of;
 };
 
-// A board of a game, which closes it at the end. A board may be moved. As in C, it is used by one call at a time, also by one of those
-// that are const, which only read.
+// A board of a game, which closes it at the end. A board may be moved. No two calls may use a board at once, as in C, not even two
+// that are const: those read only, but take the board out of the handle meanwhile. Calls on two boards may run at once.
 class board {
+    using list = std::initializer_list<std::uint32_t>;
+
   public:
-    explicit board(const game_view &game) : size(game.owners.size())
+    explicit board(const game_view &game)
     {
         const pgboard_game arrays = detail::arrays(game);
         pgboard_report report;
@@ -274,27 +324,20 @@ class board {
         board opened;
         pgboard_report report;
         detail::judge(pgboard_board_open_text(&opened.held, detail::bytes(game), game.size(), &report), report);
-        // nothing is settled, so there is no text to write: the report has the number of vertices
-        std::uint8_t nothing;
-        std::size_t unused;
-        const std::uint32_t answer = pgboard_board_solution_text(&opened.held, &nothing, 0, &unused, &report);
-        if (answer != PGBOARD_BOARD_UNSETTLED)
-            detail::judge(answer, report);
-        opened.size = static_cast<std::size_t>(report.at);
         return opened;
     }
-    board(board &&other) noexcept : held(std::exchange(other.held, {})), size(other.size) {}
+    board(board &&other) noexcept : held(std::exchange(other.held, {})) {}
     board &operator=(board other) noexcept
     {
         std::swap(held, other.held);
-        std::swap(size, other.size);
         return *this;
     }
     ~board() { pgboard_board_close(&held); }
 
     // Posts a claim; the answer says why it is refused. PGBOARD_POST_STALE is no error where others post too. After PGBOARD_POST_LOST the
     // claim was never right.
-    outcome<pgboard_posted> try_post(std::uint32_t player, span<const std::uint32_t> vertices, span<const std::uint32_t> choices, std::uint32_t worker = 0)
+    outcome<pgboard_posted> try_post(std::uint32_t player, span<const std::uint32_t> vertices, span<const std::uint32_t> choices,
+                                     std::uint32_t worker = 0) noexcept
     {
         const pgboard_claim claim{sizeof claim, worker, player, vertices.data(), vertices.size(), choices.data(), choices.size()};
         outcome<pgboard_posted> found{};
@@ -305,14 +348,42 @@ class board {
     {
         return detail::judged(try_post(player, vertices, choices, worker));
     }
+    // The same with lists, which last as long as the call.
+    outcome<pgboard_posted> try_post(std::uint32_t player, list vertices, list choices, std::uint32_t worker = 0) noexcept
+    {
+        return try_post(player, {vertices.begin(), vertices.size()}, {choices.begin(), choices.size()}, worker);
+    }
+    pgboard_posted post(std::uint32_t player, list vertices, list choices, std::uint32_t worker = 0)
+    {
+        return detail::judged(try_post(player, vertices, choices, worker));
+    }
 
     // The winner and the choice of each vertex, or PGBOARD_NO_WINNER.
     pgboard::solution state() const { return results(pgboard_board_state); }
 
-    std::uint64_t settled() const { return pgboard_board_settled(&held); }
-    std::uint64_t entries() const { return pgboard_board_entries(&held); }
+    // The board's game, with the identifiers of its vertices.
+    pgboard::game game() const
+    {
+        const std::size_t size = static_cast<std::size_t>(vertices());
+        pgboard::game found{{}, {}, {0}, {}};
+        std::vector<std::uint32_t> row(size ? size : 1);
+        for (std::size_t v = 0; v < size; v++) {
+            pgboard_vertex it;
+            pgboard_report report;
+            detail::judge(pgboard_board_vertex(&held, static_cast<std::uint32_t>(v), &it, row.data(), row.size(), &report), report);
+            found.ids.push_back(it.id), found.priorities.push_back(it.priority);
+            found.owners.push_back(static_cast<std::uint8_t>(it.owner));
+            found.targets.insert(found.targets.end(), row.begin(), row.begin() + it.successors);
+            found.starts.push_back(static_cast<std::uint32_t>(found.targets.size()));
+        }
+        return found;
+    }
+
+    std::uint64_t vertices() const noexcept { return pgboard_board_vertices(&held); }
+    std::uint64_t settled() const noexcept { return pgboard_board_settled(&held); }
+    std::uint64_t entries() const noexcept { return pgboard_board_entries(&held); }
     // (a journal refers to this board, which has to outlive it and not be moved)
-    pgboard::journal journal() const & { return pgboard::journal(*this); }
+    pgboard::journal journal() const &noexcept { return pgboard::journal(*this); }
     pgboard::journal journal() const && = delete;
 
     // The entry with this number, from 0.
@@ -346,7 +417,7 @@ class board {
     }
 
     // The same, or gives up with the answer PGBOARD_GAVE_UP if the recursion needs more steps than these.
-    std::uint32_t try_finish_within(std::uint64_t steps)
+    [[nodiscard]] std::uint32_t try_finish_within(std::uint64_t steps) noexcept
     {
         pgboard_report report;
         return pgboard_board_finish_within(&held, steps, &report);
@@ -354,8 +425,8 @@ class board {
     void finish_within(std::uint64_t steps) { detail::judge(try_finish_within(steps), {}); }
 
     // Makes one search of those that are left or, after the last one, takes up to so many steps of the recursion, and leaves in `steps`
-    // the number of steps that it did not take. PGBOARD_OK once all is settled, and PGBOARD_GAVE_UP before: call it again then.
-    std::uint32_t try_advance(std::uint64_t &steps)
+    // the number of steps that it did not take. PGBOARD_OK once all is settled, and PGBOARD_BOARD_UNSETTLED before: call it again then.
+    [[nodiscard]] std::uint32_t try_advance(std::uint64_t &steps) noexcept
     {
         pgboard_report report;
         return pgboard_board_advance(&held, &steps, &report);
@@ -364,7 +435,7 @@ class board {
     bool advance(std::uint64_t &steps)
     {
         const std::uint32_t answer = try_advance(steps);
-        if (answer != PGBOARD_GAVE_UP)
+        if (answer != PGBOARD_BOARD_UNSETTLED)
             detail::judge(answer, {});
         return answer == PGBOARD_OK;
     }
@@ -374,7 +445,7 @@ class board {
     std::string solution_text() const
     {
         // (a row of the game's arrays takes up to 20 bytes)
-        std::string into(size * 20 + 20, '\0');
+        std::string into(static_cast<std::size_t>(vertices()) * 20 + 20, '\0');
         std::size_t written = 0;
         pgboard_report report;
         const auto write = [&] {
@@ -395,24 +466,23 @@ class board {
 
     template <class Call> pgboard::solution results(Call call) const
     {
-        return detail::judged(detail::written(size, [&](auto *results, auto *report) { return call(&held, results, report); }));
+        return detail::judged(detail::written(static_cast<std::size_t>(vertices()), [&](auto *results, auto *report) { return call(&held, results, report); }));
     }
 
     // (C's readers take a board that is not const)
-    mutable pgboard_board held{};
-    std::size_t size = 0;
+    mutable pgboard_board held = PGBOARD_BOARD;
 };
 
 inline entry journal::iterator::operator*() const
 {
     return of->entry(number);
 }
-inline std::uint64_t journal::iterator::at() const
+inline std::uint64_t journal::iterator::at() const noexcept
 {
     const std::uint64_t count = of->entries();
     return number < count ? number : count;
 }
-inline std::uint64_t journal::size() const
+inline std::uint64_t journal::size() const noexcept
 {
     return of->entries();
 }

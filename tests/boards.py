@@ -438,7 +438,7 @@ class Outside(Boards):
     def test_statuses(self):
         good, bad = common.ROOT / "examples" / "requests.pg", self.file("bad.pg", "0 0 0 7;")
         refused = "outside: .*"
-        fault = r"outside: a successor is no vertex \(0\)"
+        fault = r"outside: a successor is no vertex \(0, 7\)"
         runs = [
             (2, "outside: usage: .*", "a b"), (2, "outside: usage: .*", "--help"), (3, fault, f"{bad}"),
             (4, "outside: read or write fault", "/nowhere"), (4, "outside: read or write fault", "/tmp"),

@@ -173,7 +173,7 @@ class Embed(unittest.TestCase):
         declared = re.findall(r"(?ms)^(?:uint32_t|uint64_t|void) (\w+)\([^;]*;", HEADER)
         crate = "".join(path.read_text() for path in (CRATE / "src").glob("*.rt"))
         self.assertEqual(sorted(declared), sorted(re.findall(r'pub extern "C" fn (\w+)', crate)))
-        self.assertEqual(len(declared), 23)
+        self.assertEqual(len(declared), 25)
 
     def test_the_manual_page_has_the_calls_and_structs_of_the_header(self):
         page = common.text_of("packaging/man/pgboard.3")
@@ -187,9 +187,9 @@ class Embed(unittest.TestCase):
         shown = in_one("\n".join(lines).split(".SH DESCRIPTION")[0])
         calls = {in_one(it) for it in re.findall(r"(?ms)^(?:uint32_t|uint64_t|void) [^;]*;", HEADER)}
         calls |= {f"{it};" for it in re.findall(r"(?m)^PGBOARD_INLINE (const char .*\))$", HEADER)}
-        self.assertEqual(len(calls), 25)
+        self.assertEqual(len(calls), 27)
         structs = {in_one(it) for it in re.findall(r"(?ms)^struct \w+ \{.*?^\};", HEADER)}
-        self.assertEqual(len(structs), 9)
+        self.assertEqual(len(structs), 10)
         self.assertEqual(set(re.findall(r"(?:const char \*|\w+ )pgboard_\w+\([^;{]*\);", shown)), calls)
         self.assertEqual(set(re.findall(r"struct \w+ \{[^}]*\};", shown)), structs)
         names = {re.search(r"(pgboard_\w+)\(", it)[1] for it in calls}
@@ -313,17 +313,22 @@ class Embed(unittest.TestCase):
         self.assertEqual(status, 0, out + err)
         self.assertRegex(out, r"(?m)^[1-9]\d* passed, 0 failed$")
 
-    def test_the_c_programs_of_the_pages(self):
-        programs, commands = pages.c_programs(common.text_of(pages.C_PAGE))
-        self.assertEqual(len(programs), 3)
+    def test_the_programs_of_the_page_and_the_one_that_it_names(self):
         for name in ("crates", "include"):
             (self.folder / name).symlink_to((common.PROVED if name == "crates" else common.ROOT) / name)
-        for program, printed in programs:
-            (self.folder / "embed.c").write_text(program)
-            self.built([*FLAGS, "-fsyntax-only", f"{self.folder}/embed.c"])
-            status, out, err = common.run(["bash", "-e", "-c", commands], timeout=3000, cwd=self.folder)
-            self.assertEqual(status, 0, out + err)
-            self.assertEqual(run([f"{self.folder}/embed"]), (0, printed, ""))
+        stop = common.text_of("examples/board/stop.c")
+        more = {"c": [(stop, "".join(re.findall(r"(?m)^ \*     (.*\n)", stop)))], "cpp": []}
+        warned = {"c": ["cc", "-std=c11"], "cpp": ["c++", "-std=c++17"]}
+        for language, count in (("c", 2), ("cpp", 1)):
+            programs, commands = pages.c_programs(common.text_of(pages.C_PAGE), language)
+            self.assertEqual(len(programs), count)
+            for program, printed in programs + more[language]:
+                source = self.folder / f"embed.{language}"
+                source.write_text(program)
+                self.assertEqual(run([*warned[language], *WARNINGS, "-fsyntax-only", source])[::2], (0, ""))
+                status, out, err = common.run(["bash", "-e", "-c", commands], timeout=3000, cwd=self.folder)
+                self.assertEqual(status, 0, out + err)
+                self.assertEqual(run([f"{self.folder}/embed"]), (0, printed, ""))
 
     def test_bindings_python(self):
         env = {**os.environ, "PGBOARD_LIBRARY": str(build_shared(self.folder)), "PGBOARD_TESTED": str(common.PROGRAM)}

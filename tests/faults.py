@@ -9,7 +9,7 @@ import common
 
 tool = common.load(common.ROOT / "tools/faults")
 ANSWERS = tool.ANSWERS
-NUMBERS, TEXTS = (common.text_of("crates/pgboard_c/specs", it) for it in ("Numbers.antt", "Text.antt"))
+NUMBERS = common.text_of("crates/pgboard_c/specs/Numbers.antt")
 # the names of faults by the enumeration that has them, and the one that C has another name for
 GROUPS = {it: f"{it.upper()}_" for it in ("solution", "known", "board", "post", "array")}
 GROUPS |= {"text": "GAME_", "structure": "STRUCT_"}
@@ -22,15 +22,6 @@ LIMITS = "max_vertices", "max_edges", "max_number", "max_text"
 def name_of(group, name):
     name = GROUPS.get(group, "") + re.sub(r"(?<!^)([A-Z])", r"_\1", name).upper()
     return OTHER_NAMES.get(name, name)
-
-
-def defined():
-    """The answers in the definitions: the name, the number, and how many fields."""
-    line = r"(?m)^(?:\w+_answer|answer_of) \(?(\w+)\.(\w+)[^=\n]*= answer (\d+) (.*)$"
-    for group, name, number, fields in re.findall(line, NUMBERS):
-        if name != "Memory" or group == "fault":
-            # (a field is a word, or words in brackets; 0 is none)
-            yield name_of(group, name), int(number), 2 - re.sub(r"\(.*?\)", "it", fields).split().count("0")
 
 
 def defined_others():
@@ -62,9 +53,13 @@ class Faults(unittest.TestCase):
                     limits, of_answer = (set(re.findall(r"\d\d+", text)) for text in (words, it.text))
                     self.assertIn(limits, [of_answer, set()] if it.fields() else [of_answer])
 
-    def test_the_definitions_have_the_numbers_and_the_fields(self):
-        wanted = [(it.name, it.number, it.fields()) for it in ANSWERS if it.name != "OK"]
-        self.assertEqual(sorted(defined()), sorted(wanted))
+    def test_a_row_has_the_name_and_the_fields_of_its_fault(self):
+        for it in ANSWERS:
+            with self.subTest(it.name):
+                kind, name, fields = re.fullmatch(r"(\w+)::(\w+)(.*)|-", it.fault).groups("")
+                count = len(re.findall(r": \w+", fields)) + ("Structure" in fields)
+                named = name_of(tool.KINDS[kind], name) if kind else "OK"
+                self.assertEqual((named, count), (it.name, it.fields()))
 
     def test_the_definitions_have_the_other_numbers_of_the_header(self):
         found = re.findall(r"(?m)^#define PGBOARD_(\w+) (\d+)u", common.text_of(tool.HEADER))
@@ -73,10 +68,6 @@ class Faults(unittest.TestCase):
         # the tests in C see each of them come from the library
         seen = common.text_of("tests/embed/test.c") + common.text_of("tests/embed/board.c")
         self.assertEqual([name for name, _ in found if not re.search(rf"\bPGBOARD_{name}\b", seen)], [])
-
-    def test_the_definitions_have_the_texts(self):
-        texts = dict(re.findall(r'if n == (\d+) then codes "(.*)\\0" else', TEXTS))
-        self.assertEqual(texts, {str(it.number): it.text for it in ANSWERS})
 
 
 if __name__ == "__main__":

@@ -47,9 +47,9 @@ def examples(text):
                 yield head, block[2], after[2]
 
 
-def c_programs(text):
-    programs = re.findall(r"(?ms)^```c\n(.*?)^```$.*?^```text\n(.*?)^```$", text)
-    return programs, next(it[2] for it in BLOCK.finditer(text) if it[1] == "sh" and " embed.c " in it[2])
+def c_programs(text, language="c"):
+    programs = re.findall(rf"(?ms)^```{language}\n(.*?)^```$.*?^```text\n(.*?)^```$", text)
+    return programs, next(it[2] for it in BLOCK.finditer(text) if it[1] == "sh" and f" embed.{language} " in it[2])
 
 
 def anchors(text):

@@ -40,8 +40,13 @@ class Theorem(unittest.TestCase):
         texts = [(path, call.contract) for path, _, call in theorem.public_calls()]
         for path, names in theorem.exported():
             texts += [(path, line) for owner, line in theorem.views(path) if names is None or owner in names]
+        named = {name for it in texts for name in theorem.names_in(*it)}
+        # nor what another crate imports
+        for crate, kind in itertools.product(theorem.CRATES, ("src", "specs", "proofs")):
+            found = {it for path in theorem.files(f"{crate}/{kind}/**/*.*t") for it in theorem.imports(path).values()}
+            named |= {it for it in found if not it.startswith(f"{crate}.")}
         definitions = theorem.Definitions()
-        reached, _ = definitions.reached(name for it in texts for name in theorem.names_in(*it))
+        reached, _ = definitions.reached(named)
         for key in definitions.items:
             with self.subTest(key):
                 self.assertEqual(".private." in key, key not in reached)

@@ -6,7 +6,6 @@
 #include <future>
 #include <iostream>
 #include <mutex>
-#include <sstream>
 
 #include "pgboard.hpp"
 
@@ -17,22 +16,12 @@ struct Game {
     Numbers priority, owner;
     std::vector<Numbers> after, before;
 
-    explicit Game(const std::string &text)
+    explicit Game(const pgboard::game &it)
+        : priority(it.priorities), owner(it.owners.begin(), it.owners.end()), after(owner.size()), before(owner.size())
     {
-        const std::string tidy = pgboard::tidy_text(text); // a header, and then a line for each vertex
-        std::istringstream words(tidy.substr(tidy.find('\n')));
-        Numbers ids;
-        for (uint32_t id, to; words >> id; ids.push_back(id)) {
-            priority.emplace_back(), owner.emplace_back(), after.emplace_back(), before.emplace_back();
-            words >> priority.back() >> owner.back();
-            for (char sign = ','; sign == ','; after.back().push_back(to))
-                words >> to >> sign;
-        }
-        for (uint32_t v = 0; v < ids.size(); v++)
-            for (uint32_t &w : after[v]) {
-                w = static_cast<uint32_t>(std::lower_bound(ids.begin(), ids.end(), w) - ids.begin());
-                before[w].push_back(v);
-            }
+        for (uint32_t v = 0; v < owner.size(); v++)
+            for (uint32_t e = it.starts[v]; e < it.starts[v + 1]; e++)
+                after[v].push_back(it.targets[e]), before[it.targets[e]].push_back(v);
     }
 };
 
@@ -99,7 +88,7 @@ try {
     file.exceptions(std::ios::failbit);
     const std::string text(std::istreambuf_iterator<char>(file), {});
     pgboard::board board = pgboard::board::open_text(text);
-    const Game game(text);
+    const Game game(board.game());
     std::mutex turn;
     Search even{game, board, turn, 0}, odd{game, board, turn, 1};
     const auto one = std::async([&] { even.run(); }), other = std::async([&] { odd.run(); });
@@ -112,7 +101,7 @@ try {
               << ", refused " << even.refused + odd.refused << ", settled " << settled << " of "
               << board.settled() << "\n";
 } catch (const pgboard::fault &it) {
-    return std::cerr << "outside: " << it.what() << " (" << it.at << ")\n", 3;
+    return std::cerr << "outside: " << it.what() << "\n", 3;
 } catch (const std::ios::failure &) {
     return std::cerr << "outside: read or write fault\n", 4;
 } catch (const std::bad_alloc &) {

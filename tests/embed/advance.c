@@ -67,11 +67,11 @@ static int advances_by(uint64_t given)
     report.at = report.to = 9, steps = given;
     uint32_t answer = advances();
     after = view();
-    EXPECT(answer == PGBOARD_OK || answer == PGBOARD_GAVE_UP);
-    EXPECT(report.at == 0 && report.to == 0 && steps <= given);
+    EXPECT(answer == PGBOARD_OK || answer == PGBOARD_BOARD_UNSETTLED);
+    EXPECT(report.at == n - after.settled && report.to == 0 && steps <= given);
     EXPECT((answer == PGBOARD_OK) == (after.settled == n) && is_kept(&before, &after));
     /* a call makes a search and takes no step, or it takes steps of the recursion, all of them if that is not the end */
-    if (answer == PGBOARD_GAVE_UP && given != steps)
+    if (answer != PGBOARD_OK && given != steps)
         run.in_recursion = 1;
     EXPECT(answer == PGBOARD_OK || steps == (run.in_recursion ? 0 : given));
     EXPECT(answer == PGBOARD_OK || !run.in_recursion || is_same(&before, &after));

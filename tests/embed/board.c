@@ -94,6 +94,7 @@ static void is_closed_at_first(void)
     EXPECT(refuses(solution, PGBOARD_BOARD_CLOSED, 0, 0));
     EXPECT(not_read(0, MOST, MOST, PGBOARD_BOARD_CLOSED, 0));
     EXPECT(pgboard_board_settled(&board) == 0 && pgboard_board_entries(&board) == 0);
+    EXPECT(pgboard_board_vertices(&board) == 0 && is_not_read(0, PGBOARD_BOARD_CLOSED, 0));
     pgboard_board_close(&board);
     priorities[1] = PGBOARD_MAX_NUMBER + 1;
     EXPECT(refuses(opens, PGBOARD_PRIORITY, 1, 0));
@@ -141,6 +142,8 @@ static void posts_and_refuses(void)
     EXPECT(refuses(posts_open, PGBOARD_POST_OPEN, 2, 1));
     EXPECT(refuses(solution, PGBOARD_BOARD_UNSETTLED, 3, 0));
     EXPECT(not_read(0, MOST, MOST, PGBOARD_BOARD_ENTRY, 0));
+    EXPECT(is_read(0, 0) && is_read(1, 1) && is_read(2, 2));
+    EXPECT(is_not_read(3, PGBOARD_BOARD_VERTEX, 3) && is_not_read(UINT32_MAX, PGBOARD_BOARD_VERTEX, 3));
     EXPECT(posts_zero() == PGBOARD_OK && posted.entry == 0 && posted.claimed == 1 && posted.settled == 2);
     EXPECT(state() == PGBOARD_OK && winners[0] == 0 && winners[1] == PGBOARD_NO_WINNER && winners[2] == 0);
     EXPECT(choices[0] == 0 && choices[1] == NONE && choices[2] == 0);

@@ -126,6 +126,9 @@ static void opens_a_random_game(uint64_t *seed)
     into_len = drawn(seed, 2) ? drawn(seed, sizeof into) : 0;
     EXPECT(refuses(writes_solution, PGBOARD_BOARD_UNSETTLED, n, 0));
     EXPECT(refuses(opens_text, PGBOARD_BOARD_OPEN, 0, 0));
+    for (uint32_t v = 0; v < n; v++)
+        EXPECT(is_read(v, identifiers[v]));
+    EXPECT(is_not_read((uint32_t)n, PGBOARD_BOARD_VERTEX, n));
     EXPECT(pgboard_board_finish(&board, &report) == PGBOARD_OK);
     has_the_right_text();
     EXPECT(solution() == PGBOARD_OK && memcmp(winners, right_winners, n) == 0 && memcmp(choices, right_choices, n * sizeof *choices) == 0);
@@ -144,6 +147,8 @@ static void opens_a_random_game(uint64_t *seed)
     EXPECT(pgboard_solve_text(text, text_len, right, sizeof right, &right_len, &report) == PGBOARD_OK);
     EXPECT(opens() == PGBOARD_OK && pgboard_board_finish(&board, &report) == PGBOARD_OK);
     has_the_right_text();
+    for (uint32_t v = 0; v < n; v++)
+        EXPECT(is_read(v, v));
     pgboard_board_close(&board);
 }
 

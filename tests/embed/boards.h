@@ -56,6 +56,42 @@ static inline uint32_t solution(void)
     return pgboard_board_solution(&board, &it, &report);
 }
 
+/* The vertex as the arrays have it, and with this identifier: read into an array that just suffices, a longer one, and none that is
+ * shorter. */
+static inline int is_read(uint32_t v, uint32_t identifier)
+{
+    struct pgboard_vertex it, kept = {1, 2, 3, 4};
+    uint32_t row[MOST + 1], right[MOST], count = 0;
+    int holds = pgboard_board_vertices(&board) == n;
+    for (uint32_t w = 0; w < n; w++)
+        for (uint32_t e = starts[v]; e < starts[v + 1]; e++)
+            if (targets[e] == w && (count == 0 || right[count - 1] != w))
+                right[count++] = w;
+    for (uint32_t length = 0; length < count + 2; length++) {
+        memset(row, 9, sizeof row), it = kept, report.at = report.to = 99;
+        uint32_t answer = pgboard_board_vertex(&board, v, &it, row, length, &report);
+        if (length < count) {
+            holds &= answer == PGBOARD_CAPACITY && report.at == count && report.to == 0;
+            holds &= memcmp(&it, &kept, sizeof it) == 0 && row[0] == 0x09090909;
+            continue;
+        }
+        holds &= answer == PGBOARD_OK && report.at == 0 && report.to == 0;
+        holds &= it.id == identifier && it.priority == priorities[v] && it.owner == owners[v] && it.successors == count;
+        holds &= memcmp(row, right, count * sizeof *row) == 0 && row[count] == 0x09090909;
+    }
+    return holds;
+}
+
+/* No vertex is read. */
+static inline int is_not_read(uint32_t v, uint32_t answer, uint64_t at)
+{
+    struct pgboard_vertex it = {1, 2, 3, 4}, kept = it;
+    uint32_t row[] = {9, 9};
+    report.at = report.to = 99;
+    int holds = pgboard_board_vertex(&board, v, &it, row, 2, &report) == answer && report.at == at && report.to == 0;
+    return holds && memcmp(&it, &kept, sizeof it) == 0 && row[0] == 9 && row[1] == 9;
+}
+
 /* All that can be read of the board: the state, and the rows of the journal. */
 struct view {
     uint8_t winners[MOST];

@@ -101,7 +101,7 @@ static void is_advanced_by_short_calls(void)
         answer = pgboard_board_advance(&board, &steps, &report);
         double took = (double)(clock() - begun) / CLOCKS_PER_SEC;
         longest = took > longest ? took : longest, calls++, taken += 1 - steps;
-    } while (answer == PGBOARD_GAVE_UP);
+    } while (answer == PGBOARD_BOARD_UNSETTLED);
     EXPECT(answer == PGBOARD_OK && calls > taken && taken > 0 && longest < SHORT);
     EXPECT(pgboard_board_solution(&board, &more, &report) == PGBOARD_OK && memcmp(winners, again, n) == 0);
     pgboard_board_close(&board);

@@ -27,12 +27,25 @@ template <class Of, class = void> struct has_journal : std::false_type {};
 template <class Of> struct has_journal<Of, std::void_t<decltype(std::declval<Of>().journal())>> : std::true_type {};
 static_assert(has_journal<const pgboard::board &>::value && !has_journal<pgboard::board>::value, "the board of a journal stays");
 
+// A view may be kept, so none is made of a list, which ends with the expression, nor of a number that is a null pointer.
+using numbers = pgboard::span<const std::uint32_t>;
+template <class Of, class = void> struct takes_numbers : std::false_type {};
+template <class Of> struct takes_numbers<Of, std::void_t<decltype(Of{0, 1})>> : std::true_type {};
+static_assert(!std::is_constructible_v<numbers, std::initializer_list<std::uint32_t>> && !takes_numbers<numbers>::value);
+static_assert(std::is_constructible_v<numbers, std::uint32_t *, int> && std::is_constructible_v<numbers, std::array<std::uint32_t, 3> &>);
+static_assert(std::is_nothrow_constructible_v<pgboard::game_view, const pgboard::game &> && std::is_nothrow_move_assignable_v<pgboard::board>);
+static_assert(noexcept(pgboard::try_check(two, pgboard::solution())) && noexcept(std::declval<const pgboard::board &>().settled()));
+static_assert(noexcept(std::declval<pgboard::board &>().try_post(0, numbers(), numbers())) && !noexcept(pgboard::check(two, pgboard::solution())));
+
 static bool refuses(std::uint32_t answer, std::uint64_t at, std::uint64_t to, const std::function<void()> &call)
 {
     try {
         call();
     } catch (const pgboard::fault &fault) {
-        return fault.answer == answer && fault.at == at && fault.to == to && std::strcmp(fault.what(), pgboard_strerror(answer)) == 0;
+        // (tests/faults.py looks at the numbers of fields)
+        const std::string text = pgboard_strerror(answer), one = " (" + std::to_string(at), what = fault.what();
+        const bool has_places = what == text + one + ")" || what == text + one + ", " + std::to_string(to) + ")";
+        return fault.answer == answer && fault.at == at && fault.to == to && (has_places || (what == text && at == 0 && to == 0));
     }
     return false;
 }
@@ -101,7 +114,7 @@ static bool has_its_report()
     game.targets[7] = 99;
     static bool was_refused;
     return refuses(PGBOARD_UNKNOWN, 7, 99, [&] {
-               meanwhile = [] { was_refused = refuses(PGBOARD_LEAVES, 0, 1, [] { pgboard::check(two, {{0, 1}, {1, 1}}); }); };
+               meanwhile = [] { was_refused = refuses(PGBOARD_LEAVES, 0, 1, [] { pgboard::check(two, pgboard::solution{{0, 1}, {1, 1}}); }); };
                pgboard::check(game, right);
            })
         && was_refused;
@@ -145,6 +158,17 @@ static void answers()
     EXPECT(within && within.answer == PGBOARD_OK && within.value.winners == pgboard::solve(five).winners && within.value.choices == pgboard::solve(five).choices);
     EXPECT(pgboard::solve_within(five, more + 1).winners == within.value.winners);
     EXPECT(pgboard::try_solve_within(pgboard::game{{}, {}, {0}, {}}, more).answer == PGBOARD_NO_VERTEX);
+    // a verdict that is negative
+    const auto verdict = pgboard::try_check(two, pgboard::solution{{0, 1}, {1, 1}});
+    EXPECT(!verdict && verdict.answer == PGBOARD_LEAVES && verdict.report.at == 0 && verdict.report.to == 1);
+    EXPECT(pgboard::try_check(two, pgboard::solve(two)));
+    const auto missing = pgboard::try_verify_text("7 0 0 7;", {});
+    EXPECT(!missing && missing.answer == PGBOARD_SOLUTION_MISSING && missing.report.at == 7 && pgboard::try_verify_text("7 0 0 7;", "7 0 7;"));
+    const auto solved = pgboard::try_solve_text("7 0 0 7;"), tidied = pgboard::try_tidy_text("7 0 0 7;");
+    EXPECT(solved && solved.value == pgboard::solve_text("7 0 0 7;") && tidied && tidied.value == "parity 7;\n7 0 0 7;\n");
+    const auto unsolved = pgboard::try_solve_text("7 0 0 7"), untidied = pgboard::try_tidy_text("?");
+    EXPECT(!unsolved && unsolved.answer == PGBOARD_GAME_SYNTAX && unsolved.report.at == 7 && unsolved.value.empty());
+    EXPECT(!untidied && untidied.answer == PGBOARD_GAME_LEXICAL && untidied.report.at == 0);
     pgboard::board rest(five);
     EXPECT(rest.try_finish_within(0) == PGBOARD_GAVE_UP && rest.entries() == 0 && rest.settled() == 0);
     EXPECT(rest.try_finish_within(more) == PGBOARD_OK && rest.settled() == 5 && rest.solution().winners == within.value.winners);
@@ -210,7 +234,7 @@ static void parts()
     std::uint64_t steps = 0;
     for (int k = 0; k < 3000; k++)
         EXPECT(!board.advance(steps) && steps == 0);
-    EXPECT(board.try_advance(steps) == PGBOARD_GAVE_UP && steps == 0 && board.settled() < 5);
+    EXPECT(board.try_advance(steps) == PGBOARD_BOARD_UNSETTLED && steps == 0 && board.settled() < 5);
     const std::uint64_t given = std::uint64_t{1} << 40;
     steps = given;
     EXPECT(board.advance(steps) && board.settled() == 5 && steps < given);
@@ -241,8 +265,13 @@ static void board_texts()
 {
     const std::string text = "9 1 1 9; 3 2 0 3, 9 \"a name\";";
     pgboard::board board = pgboard::board::open_text(text);
-    EXPECT(board.settled() == 0 && board.entries() == 0);
+    EXPECT(board.settled() == 0 && board.entries() == 0 && board.vertices() == 2);
     EXPECT((board.state().winners == std::vector<std::uint8_t>{PGBOARD_NO_WINNER, PGBOARD_NO_WINNER}));
+    // the game of the board
+    const pgboard::game read = board.game();
+    EXPECT((read.ids == std::vector<std::uint32_t>{3, 9}) && (read.owners == std::vector<std::uint8_t>{0, 1}));
+    EXPECT((read.priorities == std::vector<std::uint32_t>{2, 1}) && (read.targets == std::vector<std::uint32_t>{0, 1, 1}));
+    EXPECT((read.starts == std::vector<std::uint32_t>{0, 2, 3}) && pgboard::solve(read).winners == pgboard::solve(two).winners);
     EXPECT(refuses(PGBOARD_BOARD_UNSETTLED, 2, 0, [&] { board.solution_text(); }));
     // the vertices 3 and 9 are 0 and 1
     EXPECT(board.post(1, {1}, {1}).settled == 1);
@@ -255,8 +284,10 @@ static void board_texts()
     EXPECT(refuses(PGBOARD_GAME_LEXICAL, 6, 0, [] { pgboard::board::open_text("0 0 0 ?;"); }));
     EXPECT(refuses(PGBOARD_GAME_SYNTAX, 0, 0, [] { pgboard::board::open_text({}); }));
     EXPECT(refuses(PGBOARD_UNKNOWN, 7, 8, [] { pgboard::board::open_text("7 0 0 7, 8;"); }));
+    const pgboard::game same = board.game();
+    EXPECT(same.targets == two.targets && same.starts == two.starts && (same.ids == std::vector<std::uint32_t>{0, 1}));
     pgboard::board moved(std::move(board));
-    EXPECT(refuses(PGBOARD_BOARD_CLOSED, 0, 0, [&] { board.solution_text(); }));
+    EXPECT(refuses(PGBOARD_BOARD_CLOSED, 0, 0, [&] { board.solution_text(); }) && board.vertices() == 0 && board.game().ids.empty());
     // texts with short rows and with long ones
     for (std::uint32_t first : {0u, 10u, 999990u, 2147483600u})
         for (std::uint32_t count : {1u, 2u, 40u}) {
@@ -292,9 +323,13 @@ static void sizes_and_memory()
     EXPECT(runs_out([] { pgboard::solve(five); }));
     EXPECT(runs_out([] { pgboard::solve_within(five, 9); }));
     EXPECT(runs_out([] { pgboard::solve_text("9 1 1 9; 3 2 0 3, 9;"); }));
-    EXPECT(runs_out([] { pgboard::check(two, {{0, 1}, {0, 1}}); }));
+    EXPECT(runs_out([] { pgboard::check(two, pgboard::solution{{0, 1}, {0, 1}}); }));
     EXPECT(runs_out([] { pgboard::board(two).finish(); }));
     EXPECT(has_its_report());
+    // what() has the place, where there is one
+    const auto what = [](std::uint32_t answer, std::uint64_t at, std::uint64_t to) { return std::string(pgboard::fault(answer, {at, to}).what()); };
+    EXPECT(what(PGBOARD_UNKNOWN, 7, 99) == "a successor is no vertex (7, 99)" && what(PGBOARD_GAME_LEXICAL, 0, 0).find("closed (0)") != std::string::npos);
+    EXPECT(what(PGBOARD_POST_STALE, 0, 0) == pgboard_strerror(PGBOARD_POST_STALE) && what(999, 0, 0) == "no answer of this library");
 }
 
 int main()
@@ -302,7 +337,7 @@ int main()
     const std::string text = "9 1 1 9; 3 2 0 3, 9 \"a name\";";
     const auto found = pgboard::solve(two);
     EXPECT((found.winners == std::vector<std::uint8_t>{0, 1}) && (found.choices == std::vector<std::uint32_t>{0, 1}));
-    EXPECT(pgboard::solve(two, {{PGBOARD_NO_WINNER, 1}, {PGBOARD_NO_CHOICE, 1}}).winners == found.winners);
+    EXPECT(pgboard::solve(two, pgboard::solution{{PGBOARD_NO_WINNER, 1}, {PGBOARD_NO_CHOICE, 1}}).winners == found.winners);
     const auto within = pgboard::solve_within(five, 9);
     EXPECT(within.winners == pgboard::solve(five).winners && within.choices == pgboard::solve(five).choices);
     EXPECT(refuses(PGBOARD_GAVE_UP, 0, 0, [] { pgboard::solve_within(five, 0); }));
@@ -310,11 +345,11 @@ int main()
     EXPECT(pgboard::solve_text(text) == "paritysol 9;\n3 0 3;\n9 1 9;\n");
     EXPECT(pgboard::tidy_text(text) == "parity 9;\n3 2 0 3,9;\n9 1 1 9;\n");
     EXPECT((pgboard::verify_text(text, "9 1 9; 3 0 3;"), true));
-    EXPECT(refuses(PGBOARD_LEAVES, 0, 1, [&] { pgboard::check(two, {{0, 1}, {1, 1}}); }));
-    EXPECT(refuses(PGBOARD_SOLUTION, PGBOARD_ARRAY_CHOICES, 0, [&] { pgboard::check(two, {{0, 1}, {1}}); }));
-    EXPECT(refuses(PGBOARD_KNOWN_LEAVES, 0, 1, [&] { pgboard::solve(two, {{0, PGBOARD_NO_WINNER}, {1, 1}}); }));
+    EXPECT(refuses(PGBOARD_LEAVES, 0, 1, [&] { pgboard::check(two, pgboard::solution{{0, 1}, {1, 1}}); }));
+    EXPECT(refuses(PGBOARD_SOLUTION, PGBOARD_ARRAY_CHOICES, 0, [&] { pgboard::check(two, pgboard::solution{{0, 1}, {1}}); }));
+    EXPECT(refuses(PGBOARD_KNOWN_LEAVES, 0, 1, [&] { pgboard::solve(two, pgboard::solution{{0, PGBOARD_NO_WINNER}, {1, 1}}); }));
     EXPECT(refuses(PGBOARD_LENGTHS, PGBOARD_ARRAY_STARTS, 0, [] { pgboard::solve({}); }));
-    EXPECT(refuses(PGBOARD_NO_VERTEX, 0, 0, [] { pgboard::solve({{}, {}, {0}, {}}); }));
+    EXPECT(refuses(PGBOARD_NO_VERTEX, 0, 0, [] { pgboard::solve(pgboard::game{{}, {}, {0}, {}}); }));
     EXPECT(refuses(PGBOARD_GAME_LEXICAL, 6, 0, [] { pgboard::solve_text("0 0 0 ?;"); }));
     EXPECT(refuses(PGBOARD_GAME_SYNTAX, 0, 0, [] { pgboard::tidy_text({}); }));
     EXPECT(refuses(PGBOARD_SOLUTION_MISSING, 3, 0, [&] { pgboard::verify_text(text, {}); }));

@@ -13,7 +13,7 @@ from array import array
 from typing import TYPE_CHECKING, Any, Iterable, Sequence
 
 from . import native
-from .faults import FAULTS, GaveUp
+from .faults import FAULTS, Unsettled
 from .slices import Slice
 from .version import __version__
 
@@ -154,7 +154,7 @@ class Handle:
         left, begun, is_last = ctypes.c_uint64(steps), time.monotonic(), True
         try:
             run("pgboard_board_advance", self.memory, ctypes.byref(left))
-        except GaveUp:
+        except Unsettled:
             is_last = False
         return Slice(is_last, steps - left.value, time.monotonic() - begun)
 

@@ -34,10 +34,9 @@ pub use Rattle.pg_game.specs.Limits.{IsWithinLimits}
 pub use Rattle.pg_game.specs.Player.{opponent, same_player}
 pub use Rattle.pg_game.specs.Region.{IsRegion, Wins}
 pub use Rattle.pg_game.specs.Subgame.{IsSubgame}
-pub use Rattle.pg_game.specs.VertexSet.{In, VertexSet, Within, all_vertices, members, no_vertices, union}
+pub use Rattle.pg_game.specs.VertexSet.{In, VertexSet, Within, all_vertices, members, no_vertices, union, without}
 pub use Rattle.pg_game.specs.declared.player.Player.{Player}
 pub use Rattle.pg_game.specs.declared.player.Player.TheVariants.{Even, Odd}
-pub use Rattle.pg_game.specs.private.VertexSet.{without}
 pub use Rattle.pg_text.specs.Known.{choice_in_row, is_winner}
 pub use Rattle.pg_text.specs.Solution.{IsExactSolution}
 pub use Rattle.pg_dominion.proofs.AttractionSteps.{read_set}

@@ -16,10 +16,10 @@ use Rattle.pg_board.proofs.Distinct.{AllRows, distinct-append, each_settled, eac
 pub lawful_now : (g : Graph) (j : Journal) → IsLawful g j → IsLawfulState g (state_of j)
 lawful_now g j lawful = subst (λ xs. IsLawfulState g (state_of xs)) (take-length j) (lawful.states (length j) (omega arith))
 
-abbrev pub Settled : Journal → List ℕ
-Settled j = vertices (AllRows j)
+abbrev pub settled_list : Journal → List ℕ
+settled_list j = vertices (AllRows j)
 
-pub number_is : (j : Journal) → number_settled j ≡ length (Settled j)
+pub number_is : (j : Journal) → number_settled j ≡ length (settled_list j)
 number_is j = sym (length-map (AllRows j) (λ (r : ℕ × Option ℕ). r.0) ∙ length-flat_map (λ (e : Entry). e.rows) j)
 
 pub in_vertices : (rows : ClaimRows) (v : ℕ) → list_any (nat_eq v) (vertices rows) ≡ named rows v
@@ -27,7 +27,7 @@ in_vertices [] v = refl
 in_vertices (r ∷ rows) v = search (rules, in_vertices rows v, eq-eqb, eqb-true)
 
 -- the rows name the settled vertices
-pub settled_vertices : (j : Journal) (v : ℕ) → list_any (nat_eq v) (Settled j) ≡ not (is_unsettled (state_of j v))
+pub settled_vertices : (j : Journal) (v : ℕ) → list_any (nat_eq v) (settled_list j) ≡ not (is_unsettled (state_of j v))
 settled_vertices [] v = refl
 settled_vertices (e ∷ es) v = search (rules, settled_vertices es v, map-append, list_any-append, in_vertices)
 
@@ -36,21 +36,21 @@ whose None h = absurd (cc h)
 whose (Some r) h = (r.0, is_same r.0 r.0 refl)
 
 module _ (g : Graph) (j : Journal) (lawful : IsLawful g j) where
-  pub below : (q : ℕ) → list_any (nat_eq q) (Settled j) ≡ true → q < length g
+  pub below : (q : ℕ) → list_any (nat_eq q) (settled_list j) ≡ true → q < length g
   below q i =
       let w = whose (state_of j q) (sym (settled_vertices j q) ∙ i) in
       ltb-true q (length g) (((lawful_now g j lawful).regions w.0).vertices q w.1)
 
   pub number_within : number_settled j ≤ length g
-  number_within = let h = length-le_from_distinct_below (Settled j) (length g) lawful.once below in omega (arith, number_is j)
+  number_within = let h = length-le_from_distinct_below (settled_list j) (length g) lawful.once below in omega (arith, number_is j)
 
   unsettled_none : number_settled j ≡ length g → (v : ℕ) → v < length g → is_unsettled (state_of j v) ≡ true → ⊥
   unsettled_none n v l u =
-      let fresh : list_any (nat_eq v) (Settled j) ≡ false = settled_vertices j v ∙ ap not u in
-      let more = length-le_from_distinct_below (Settled j ++ v ∷ []) (length g) (IsDistinct-push nat_eq_equiv (Settled j) v lawful.once fresh) one_more in
-      omega (arith, number_is j, length-append (Settled j) (v ∷ []))
+      let fresh : list_any (nat_eq v) (settled_list j) ≡ false = settled_vertices j v ∙ ap not u in
+      let more = length-le_from_distinct_below (settled_list j ++ v ∷ []) (length g) (IsDistinct-push nat_eq_equiv (settled_list j) v lawful.once fresh) one_more in
+      omega (arith, number_is j, length-append (settled_list j) (v ∷ []))
     where
-      one_more : (q : ℕ) → list_any (nat_eq q) (Settled j ++ v ∷ []) ≡ true → q < length g
+      one_more : (q : ℕ) → list_any (nat_eq q) (settled_list j ++ v ∷ []) ≡ true → q < length g
       one_more q i = search (rules, list_any-append, below, eqb-true)
 
   pub full_from_number : number_settled j ≡ length g → IsFull g (state_of j)
@@ -72,10 +72,10 @@ more_settled_by j worker i e l same =
 module _ (g : Graph) (j : Journal) (lawful : IsLawful g j) (R : ClaimRows) (distinct : IsDistinct nat_eq (vertices R))
     (unsettled_at : (v : ℕ) → named R v ≡ true → (v < length g) × (is_unsettled (state_of j v) ≡ true)) where
   abbrev Both : List ℕ
-  Both = Settled j ++ vertices R
+  Both = settled_list j ++ vertices R
 
   both_distinct : IsDistinct nat_eq Both
-  both_distinct = distinct-append (λ v. is_unsettled (state_of j v)) (Settled j) (vertices R) lawful.once distinct (each_settled j)
+  both_distinct = distinct-append (λ v. is_unsettled (state_of j v)) (settled_list j) (vertices R) lawful.once distinct (each_settled j)
       (each_named (λ v. is_unsettled (state_of j v) ≡ true) R (λ v i. (unsettled_at v i).1))
 
   both_below : (q : ℕ) → list_any (nat_eq q) Both ≡ true → q < length g
@@ -84,13 +84,13 @@ module _ (g : Graph) (j : Journal) (lawful : IsLawful g j) (R : ClaimRows) (dist
   pub sum_fits : number_settled j + length R ≤ length g
   sum_fits =
       let h = length-le_from_distinct_below Both (length g) both_distinct both_below in
-      omega (arith, h, number_is j, length-append (Settled j) (vertices R), length-map R (λ (r : ℕ × Option ℕ). r.0))
+      omega (arith, h, number_is j, length-append (settled_list j) (vertices R), length-map R (λ (r : ℕ × Option ℕ). r.0))
 
   not_named : number_settled j + length R ≡ length g → (v : ℕ) → v < length g → is_unsettled (state_of j v) ≡ true → named R v ≡ false → ⊥
   not_named n v l u out =
       let fresh : list_any (nat_eq v) Both ≡ false = search (rules, list_any-append, settled_vertices j v, in_vertices R v, u, out) in
       let more = length-le_from_distinct_below (Both ++ v ∷ []) (length g) (IsDistinct-push nat_eq_equiv Both v both_distinct fresh) one_more in
-      omega (arith, number_is j, length-append Both (v ∷ []), length-append (Settled j) (vertices R), length-map R (λ (r : ℕ × Option ℕ). r.0))
+      omega (arith, number_is j, length-append Both (v ∷ []), length-append (settled_list j) (vertices R), length-map R (λ (r : ℕ × Option ℕ). r.0))
     where
       one_more : (q : ℕ) → list_any (nat_eq q) (Both ++ v ∷ []) ≡ true → q < length g
       one_more q i = search (rules, list_any-append, both_below, eqb-true)

@@ -5,7 +5,7 @@ use Rattle.pg_board.proofs.Common.{State, is_unsettled, rest_of, settled, IsGood
 use Rattle.std.specs.Prelude.{filter}
 use Rattle.std.proofs.lemmas.List.Kept.{IsStrictlyIncreasing-filter}
 use Rattle.std.proofs.lemmas.List.Elements.{All-filter}
-pub use Rattle.pg_finders.specs.private.small.Partial.{vertices}
+pub use Rattle.pg_dominion.specs.Claim.{vertices}
 
 open_rows : (st : State) (rows : ClaimRows) → vertices (rest_of st rows) ≡ filter (λ v. is_unsettled (st v)) (vertices rows)
 open_rows st [] = refl

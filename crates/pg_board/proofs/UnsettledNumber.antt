@@ -11,7 +11,7 @@ use Rattle.pg_finders.specs.Steps.{size, steps}
 use Rattle.pg_finders.proofs.Sizes.{size_below}
 use Rattle.pg_board.specs.Finish.{IsContinued, MayGiveUp, number_unsettled}
 use Rattle.pg_board.proofs.Distinct.{AllRows, each_named}
-use Rattle.pg_board.proofs.Numbers.{Settled, number_is, in_vertices, settled_vertices, below}
+use Rattle.pg_board.proofs.Numbers.{settled_list, number_is, in_vertices, settled_vertices, below}
 
 -- the vertex has a place in the mask, and is not in it
 abbrev Free : List Bool → ℕ → Type 0
@@ -46,8 +46,8 @@ beside (v ∷ vs) mask d f =
 pub size_unsettled : (b : BoardRecord) (mask : List Bool) → IsLawful b.graph b.journal → length mask ≡ length b.graph
     → ((v : ℕ) → members mask v ≡ unsettled b.graph (state_of b.journal) v) → size mask ≤ number_unsettled b
 size_unsettled b mask lawful sized are =
-    let all = recursion_from_All (Free mask) (Settled b.journal) (each_named (Free mask) (AllRows b.journal) free) in
-    let h = beside (Settled b.journal) mask lawful.once all in
+    let all = recursion_from_All (Free mask) (settled_list b.journal) (each_named (Free mask) (AllRows b.journal) free) in
+    let h = beside (settled_list b.journal) mask lawful.once all in
     omega (arith, h, sized, number_is b.journal)
   where
     free : (v : ℕ) → named (AllRows b.journal) v ≡ true → Free mask v

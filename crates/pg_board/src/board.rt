@@ -78,8 +78,6 @@ impl<'g> Board<'g> {
     pub fn copy(&self, alloc: Global) -> Result<Copied<'g>, Memory>
         ensures { IfOk result (IsCopyOf self.now) }
     {
-        // for the proof: the graph is a game, so no edge leaves it
-        let _n = self.game.len();
         let mask = self.contents.regions.unsettled.copy(alloc)?;
         Ok(Copied {
             inside: Inside::of_subgame(self.game, mask),
@@ -94,8 +92,6 @@ impl<'g> Board<'g> {
     pub fn post(&mut self, alloc: Global, worker: u32, claim: &Claim) -> Result<Posted, Refusal>
         ensures { IsPostAnswer self.old self.new worker claim.now result }
     {
-        // for the proof: the graph is a game
-        let _n = self.game.len();
         judge_claim(alloc, self.game, claim)?;
         self.settle_sound(alloc, worker, claim)
     }
@@ -110,13 +106,10 @@ impl<'g> Board<'g> {
     ) -> Result<Posted, Refusal>
         ensures { IsSettleAnswer self.old self.new worker checked.now result }
     {
-        // for the proof: the graph is a game
-        let _n = self.game.len();
         if let Some(v) = checked.first_foreign(self.game) {
             return Err(Refusal::Foreign(v));
         }
-        let claim = checked.claim(alloc)?;
-        self.settle_sound(alloc, worker, &claim)
+        self.settle_sound(alloc, worker, checked.claim())
     }
 
     /// The game. The contract of this call states the invariant of the type.
@@ -124,10 +117,6 @@ impl<'g> Board<'g> {
         ensures graph { result.now ≡ self.now.graph }
         ensures board { IsLawfulBoard self.now }
     {
-        // for the proof: reading a field gives the invariant of the type, and so the journal is lawful
-        let _ = &self.contents.entries;
-        // for the proof: the graph is a game, within the limits
-        let _n = self.game.len();
         self.game
     }
 
@@ -158,8 +147,6 @@ impl<'g> Board<'g> {
     pub fn settled_by(&self, worker: u32) -> u64
         ensures { result ≡ settled_by self.now.journal worker }
     {
-        // for the proof: there are so few vertices that their number fits
-        let _n = self.game.len();
         let mut total = 0;
         'entries: for entry in &self.contents.entries {
             if entry.worker == worker {

@@ -63,7 +63,6 @@ impl Contents {
         ensures added { Adds (board_record game.now self.old) (board_record game.now self.new) worker (record { player = player; rows = rows.items }) result }
         ensures spare { vec_capacity self.new.entries ≡ vec_capacity self.old.entries }
     {
-        // for the proof: the graph is a game, and so small that the numbers of its vertices add up without overflow
         let n = game.len();
         let entry = self.entries.len() as u64;
         let claimed = rows.len() as u32;

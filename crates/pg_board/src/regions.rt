@@ -9,16 +9,15 @@ ghost use Rattle.std.specs.List.Sorted.{IsStrictlyIncreasing};
 ghost use Rattle.pg_board.specs.State.{settled, is_unsettled, rest_of};
 ghost use Rattle.pg_board.specs.private.Regions.{table_state, AreRegions, state_with};
 ghost use Rattle.pg_board.specs.private.VertexState.{state_in};
-ghost use Rattle.pg_game.specs.Graph.{HasEdge};
+ghost use Rattle.pg_game.specs.Graph.{HasEdge, IsGame};
 ghost use Rattle.pg_game.specs.Subgame.{IsSubgame};
-ghost use Rattle.pg_game.specs.VertexSet.{members, In, Within, union};
+ghost use Rattle.pg_game.specs.VertexSet.{members, In, Within, union, without};
 ghost use Rattle.pg_dominion.specs.Claim.{named, IsRightRow, AreRight};
 ghost use Rattle.pg_dominion.specs.AttractorState.{AttractsNoFurther};
 ghost use Rattle.pg_board.specs.private.WrittenRows.{open_before, HasWritten, WritesInTurn};
 ghost use Rattle.pg_game.specs.Least.{NoneHas, IsLeast};
 ghost use Rattle.pg_board.specs.Refusal.{IsLost};
 ghost use Rattle.pg_board.specs.private.OpenEdges.{AreTakenOut, EndsOutside, IsFirstEnd, LeadsOutside, IsFirstOutside};
-ghost use Rattle.pg_game.specs.private.VertexSet.{without};
 
 use pg_dominion::{AttractorState, Claim, Cursors, attract_from};
 use pg_game::{Game, Mask, Memory, Player};
@@ -109,6 +108,7 @@ impl Regions {
         player: Player,
         rest: &[(u32, Option<u32>)],
     ) -> Option<(u32, u32)>
+        requires game { IsGame game.now }
         requires regions { AreRegions game.now self.old }
         requires right { AreRight game.now player rest.now }
         requires unsettled { Within (named rest.now) (members self.old.unsettled) }
@@ -215,7 +215,7 @@ impl Regions {
         ensures mask { self.new.unsettled ≡ slice_set self.old.unsettled row.0 false }
         ensures cursors { self.new.cursors ≡ self.old.cursors }
     {
-        self.table[row.0 as usize] = VertexState::settled(player, row.1);
+        self.table[row.0 as usize] = VertexState::of(player, row.1);
         self.unsettled.remove(row.0);
     }
 }
@@ -279,20 +279,20 @@ impl AttractorState for Regions {
 #[derive(Clone, Copy)]
 pub enum VertexState {
     Unsettled,
-    /// Settled for the player, without a choice.
-    Settled(Player),
-    /// Settled for the player, by a choice.
+    /// Won by the player, without a choice.
+    Won(Player),
+    /// Won by the player, by a choice.
     Chosen(Player, u32),
 }
 
 impl VertexState {
-    /// Settled for the player, with this choice if there is one.
-    pub fn settled(player: Player, choice: Option<u32>) -> VertexState
+    /// That of a vertex which the player wins, with this choice if there is one.
+    pub fn of(player: Player, choice: Option<u32>) -> VertexState
         ensures { state_in result ≡ Some (player, choice) }
     {
         match choice {
             Some(w) => VertexState::Chosen(player, w),
-            None => VertexState::Settled(player),
+            None => VertexState::Won(player),
         }
     }
 
@@ -302,7 +302,7 @@ impl VertexState {
     {
         match self {
             VertexState::Unsettled => None,
-            VertexState::Settled(player) => Some((player, None)),
+            VertexState::Won(player) => Some((player, None)),
             VertexState::Chosen(player, w) => Some((player, Some(w))),
         }
     }
@@ -329,6 +329,7 @@ struct Bounds<'a> {
     regions: &'a Regions,
     player: Player,
     rest: &'a [(u32, Option<u32>)],
+    ghost is_game: { IsGame game.now },
     ghost size: { length regions.now.table.items ≡ length game.now },
     ghost mask_size: { length regions.now.unsettled ≡ length game.now },
     ghost taken_out: { AreTakenOut rest.now regions.now },
@@ -351,8 +352,6 @@ impl<'a> Bounds<'a> {
             (IsFirstEnd self.now.game.now self.now.player (union (named self.now.rest.now)
             (settled (table_state self.now.regions.now.table.items) self.now.player)) row) }
     {
-        // for the proof: the graph is a game, so successors rise
-        let _n = self.game.len();
         if let Some(w) = row.1 {
             return if self.has(w) { None } else { Some(w) };
         }

@@ -10,7 +10,7 @@ use Rattle.pg_game.proofs.Players.{own_or_other, not_own}
 use Rattle.pg_game.proofs.Members.{some_or_none}
 use Rattle.pg_dominion.specs.Attraction.{AttractInTurn}
 use Rattle.pg_dominion.specs.AttractorState.{HasOpen}
-use Rattle.pg_dominion.specs.private.FreeVertices.{Continues}
+use Rattle.pg_dominion.specs.ExtendedRows.{Continues}
 use Rattle.pg_dominion.proofs.Named.{named-append}
 use Rattle.pg_dominion.proofs.Rows.{named-push, LeadsTo-same}
 

@@ -35,12 +35,14 @@ pub use Rattle.pg_dominion.specs.Attraction.{IsAttractedRow, IsAttraction}
 pub use Rattle.pg_dominion.specs.Checked.{AgreesAt, AgreesWithGame, AreChecked, RowEdge, claim_row, claim_rows, row_priority}
 pub use Rattle.pg_dominion.specs.Claim.{AreRight, ClaimRows, IsRightRow, IsSound, choice_in, named}
 pub use Rattle.pg_dominion.specs.Kept.{IsKept}
-pub use Rattle.pg_dominion.specs.KeptEdges.{Edge, IsOnBadCycle, kept_row}
+pub use Rattle.pg_dominion.specs.KeptEdges.{Edge, IsOnBadCycle, ends_at, is_bad, kept_row}
 pub use Rattle.pg_dominion.specs.declared.checked.CheckedRow.{CheckedRow}
 pub use Rattle.pg_dominion.specs.declared.strategy_graph.StrategyGraph.{StrategyGraph}
-pub use Rattle.pg_dominion.specs.private.FreeVertices.{IsTakenOrOpen, LeadFrom}
+pub use Rattle.pg_dominion.specs.private.FreeVertices.{IsTakenOrOpen}
+pub use Rattle.pg_dominion.specs.ExtendedRows.{LeadFrom}
 pub use Rattle.pg_dominion.specs.private.KeptEdges.{AreLabelled, AreNoted, AreReached, EdgeUnder, GoesOn, IsFollowed, IsQueued, IsSpread, Leads, Reaches}
 pub use Rattle.pg_dominion.specs.private.KeptEdges.{label_lists, reached_lists}
-pub use Rattle.pg_dominion.specs.private.JointStrategy.{HoldsFirstRows, LeavesTo}
-pub use Rattle.pg_dominion.specs.private.Shape.{IsLaid, Layout, is_bad, laid_with, next_after}
+pub use Rattle.pg_dominion.specs.private.JointStrategy.{LeavesTo}
+pub use Rattle.pg_dominion.specs.private.Shape.{next_after}
+pub use Rattle.pg_dominion.specs.Strategies.{IsStrategy}
 pub use Rattle.pg_dominion.specs.private.ListedEnds.{AreNamed, LeadsToListed}

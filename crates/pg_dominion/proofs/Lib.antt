@@ -6,5 +6,6 @@ pub mod AgreeingRows
 pub mod AttractionSteps
 pub mod TakenRow
 pub mod CheckedRows
+pub mod Strategies
 pub mod SearchSteps
 pub mod ListedVertices

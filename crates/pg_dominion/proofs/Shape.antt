@@ -6,13 +6,10 @@ use Rattle.pg_dominion.proofs.Common.{drop, take-append-drop, take_more, take_al
 use Rattle.pg_dominion.proofs.Common.{below_from_sorted, Player, Graph, ClaimRows, named, IsRightRow, AreRight, next_after}
 use Rattle.std.specs.Prelude.{slice_index}
 use Rattle.std.proofs.Common.{None}
-use Rattle.pg_dominion.specs.Claim.{IsFirstWrongRow}
+use Rattle.pg_dominion.specs.Claim.{IsFirstWrongRow, vertices}
 use Rattle.pg_dominion.specs.private.Shape.{AreRightBefore}
 use Rattle.std.proofs.lemmas.List.{map_push, map-append}
 use Rattle.pg_game.proofs.AllElements.{all-push, all-front, all-back}
-
-abbrev vertices : ClaimRows → List ℕ
-vertices rows = map (λ r. r.0) rows
 
 pub next_after-push : (rows : ClaimRows) (r : ℕ × Option ℕ) → next_after rows ≤ r.0 → next_after (rows ++ r ∷ []) ≡ r.0 + 1
 next_after-push [] r l = omega arith

@@ -3,7 +3,7 @@ use Rattle.pg_dominion.proofs.Common.{◌≡◌, ℕ, ◌-◌, List, take, drop,
 use Rattle.pg_dominion.proofs.Common.{length-append, Option, ◌==◌, if◌then◌else◌, take_all, Player, Graph, VertexSet, In, union, ClaimRows, named}
 use Rattle.pg_dominion.proofs.Common.{IsAttractedRow, LeadFrom}
 use Rattle.std.proofs.Common.{length-drop}
-use Rattle.pg_dominion.specs.private.FreeVertices.{Extends}
+use Rattle.pg_dominion.specs.ExtendedRows.{Extends}
 use Rattle.pg_dominion.proofs.ListedVertices.{takes_one}
 use Rattle.pg_dominion.proofs.AttractionSteps.{Continues-push}
 use Rattle.pg_dominion.proofs.Rows.{split_push}

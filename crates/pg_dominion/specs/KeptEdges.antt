@@ -1,9 +1,21 @@
--- The kept edges of a game, in the tables of the checks, and searches along them.
-use Rattle.std.specs.Prelude.{ℕ, ◌≡◌, List, [], ◌∷◌, slice_index, Contains, if◌then◌else◌}
-use Rattle.pg_game.specs.Graph.{priority_of, successors_of}
+-- The kept edges of a game, and how those of one vertex more are kept.
+use Rattle.std.specs.Prelude.{ℕ, ◌≡◌, ◌≢◌, Bool, false, Option, Some, None, List, [], ◌∷◌, slice_index, Contains, if◌then◌else◌}
+use Rattle.pg_game.specs.declared.player.Player.{Player}
+use Rattle.pg_game.specs.Player.{same_player, opponent, of_parity}
+use Rattle.pg_game.specs.Graph.{Graph, priority_of, successors_of}
+use Rattle.pg_game.specs.Kept.{Choices}
 use Rattle.pg_game.specs.VertexSet.{In, members}
 use Rattle.pg_game.specs.Walk.{ClosedWalk, greatest_priority}
 use Rattle.pg_dominion.specs.declared.strategy_graph.StrategyGraph.{StrategyGraph}
+
+-- where the kept edges of a vertex with this choice end: in the choice alone, or without one in all successors
+abbrev pub ends_at : Graph → ℕ → Option ℕ → List ℕ
+ends_at g v None = successors_of g v
+ends_at g v (Some w) = w ∷ []
+
+-- the vertex's priority has the parity of the player's opponent
+abbrev pub is_bad : Graph → Player → ℕ → Bool
+is_bad g p v = same_player (of_parity (priority_of g v)) (opponent p)
 
 abbrev pub kept_row : StrategyGraph → ℕ → List ℕ
 kept_row k v = if members k.chosen v then slice_index k.choices.items v ∷ [] else (if members k.inside v then successors_of k.game.now v else [])
@@ -18,3 +30,25 @@ OnTop k v = (vs : List ℕ) × ClosedWalk (Edge k) (v ∷ vs) × (priority_of k.
 -- a bad vertex that is the greatest on a closed walk through it
 abbrev pub IsOnBadCycle : StrategyGraph → ℕ → Type 0
 IsOnBadCycle k v = In (members k.bad) v × OnTop k v
+
+-- the choice that is kept of a vertex
+abbrev pub kept_choice : StrategyGraph → Choices
+kept_choice k v = if members k.chosen v then Some (slice_index k.choices.items v) else None
+
+-- nothing is kept, and no vertex is bad
+abbrev pub KeepsNothing : StrategyGraph → Type 0
+KeepsNothing k = (v : ℕ) → (kept_row k v ≡ []) × (members k.bad v ≡ false)
+
+-- the same is kept of the vertex
+pub record IsSameAt (old new : StrategyGraph) (v : ℕ) : Type 0 where
+  pub choice : kept_choice new v ≡ kept_choice old v
+  pub row : kept_row new v ≡ kept_row old v
+  pub bad : members new.bad v ≡ members old.bad v
+
+-- the edges of one more vertex are kept, with this choice or none
+pub record IsKeptWith (old : StrategyGraph) (v : ℕ) (bad : Bool) (choice : Option ℕ) (new : StrategyGraph) : Type 0 where
+  pub game : new.game.now ≡ old.game.now
+  pub choice_is : kept_choice new v ≡ choice
+  pub row_is : kept_row new v ≡ ends_at old.game.now v choice
+  pub bad_is : members new.bad v ≡ bad
+  pub others : (x : ℕ) → x ≢ v → IsSameAt old new x

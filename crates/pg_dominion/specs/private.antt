@@ -1,6 +1,5 @@
--- Definitions that only private functions and proofs cite: no public contract uses them.
+-- Definitions that only private functions and proofs of this crate cite: no public contract uses them.
 pub mod FreeVertices
-pub mod ExtendedRows
 pub mod KeptEdges
 pub mod Labels
 pub mod Shape

@@ -244,8 +244,8 @@ struct FreeVertices {
 
 impl AttractorState for FreeVertices {
     ghost use Rattle.pg_game.specs.VertexSet.{members};
-    ghost use Rattle.pg_dominion.specs.private.FreeVertices.{IsFree, Extends};
-    ghost use Rattle.pg_dominion.specs.private.ExtendedRows.{extends_same, extends_then};
+    ghost use Rattle.pg_dominion.specs.private.FreeVertices.{IsFree};
+    ghost use Rattle.pg_dominion.specs.ExtendedRows.{Extends, extends_same, extends_then};
 
     type Item = (u32, Option<u32>);
 

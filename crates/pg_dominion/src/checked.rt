@@ -1,5 +1,5 @@
 //! A claim that was checked, with what its game says of its vertices: so whether it is sound in another game can be judged
-//! row by row, with no search for closed walks. A checked claim owns its rows, and outlives the claim and the game.
+//! row by row, with no search for closed walks. A checked claim has a copy of the claim, and outlives it and the game.
 
 ghost use Rattle.std.specs.Prelude.{◌≡◌, IfOk, IfErr, MatchOption, ◌↔◌, IsTrue};
 ghost use Rattle.pg_dominion.specs.Claim.{IsRightRow, AreRight, IsSound};
@@ -43,18 +43,6 @@ impl CheckedRow {
         })
     }
 
-    /// The row of the claim.
-    fn claimed(&self, player: Player) -> (u32, Option<u32>)
-        ensures { result ≡ claim_row player self.now }
-    {
-        let choice = if self.owner == player {
-            self.kept.as_slice().first().copied()
-        } else {
-            None
-        };
-        (self.vertex, choice)
-    }
-
     /// Whether the row says of its vertex what the game says.
     fn agrees(&self, game: &Game, player: Player) -> bool
         requires { KeepsOne player self.now }
@@ -77,18 +65,19 @@ impl CheckedRow {
 /// rise, that one successor is kept at each vertex of its player, and that its kept edges make only good closed walks.
 #[derive(Drop)]
 pub struct Checked {
-    player: Player,
+    claim: Claim,
     rows: Vec<CheckedRow>,
 }
 
 impl Model for Checked {
-    ghost use Rattle.pg_dominion.specs.Checked.{CheckedClaim, AreChecked};
+    ghost use Rattle.std.specs.Prelude.{◌≡◌};
+    ghost use Rattle.pg_dominion.specs.Checked.{CheckedClaim, AreChecked, claim_rows};
 
     ghost Value = { CheckedClaim };
 
-    ghost view = { λ c. record { player = c.player; rows = c.rows.items } };
+    ghost view = { λ c. record { player = c.claim.player; rows = c.rows.items } };
 
-    ghost invariant = { λ c. AreChecked c.player c.rows.items };
+    ghost invariant = { λ c. AreChecked c.claim.player c.rows.items × (c.claim.rows ≡ claim_rows c.claim.player c.rows.items) };
 }
 
 impl Checked {
@@ -103,8 +92,12 @@ impl Checked {
         ensures agrees { IfOk result (λ c. AgreesWithGame game.now c.player c.rows) }
     {
         let rows = checked_rows(alloc, game, claim)?;
+        let own = Vec::from_slice(alloc, claim.rows.as_slice())?;
         Ok(Checked {
-            player: claim.player,
+            claim: Claim {
+                player: claim.player,
+                rows: Sequence::new(own),
+            },
             rows,
         })
     }
@@ -113,7 +106,7 @@ impl Checked {
     pub fn player(&self) -> Player
         ensures { result ≡ self.now.player }
     {
-        self.player
+        self.claim.player
     }
 
     /// The rows, by rising vertex. Its contract has the invariant of the type.
@@ -124,20 +117,12 @@ impl Checked {
         self.rows.as_slice()
     }
 
-    /// The claim that was checked, made of the rows. The only error is `Memory`.
-    pub fn claim(&self, alloc: Global) -> Result<Claim, AllocError>
-        ensures claim { IfOk result (λ c. c ≡ claim_of self.now) }
+    /// The claim that was checked. Its contract has the invariant of the type.
+    pub fn claim(&self) -> &Claim
+        ensures claim { result.now ≡ claim_of self.now }
         ensures checked { AreChecked self.now.player self.now.rows }
     {
-        let player = self.player();
-        let mut claimed = Vec::with_capacity(alloc, self.rows.len())?;
-        'rows: for row in self.rows() {
-            claimed.push(row.claimed(player))?;
-        }
-        Ok(Claim {
-            player,
-            rows: Sequence::new(claimed),
-        })
+        &self.claim
     }
 
     /// The vertex of the first row that does not say of it what the game says; none where the claim agrees with the game.

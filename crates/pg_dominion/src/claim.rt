@@ -9,16 +9,15 @@ ghost use Rattle.std.specs.List.{list_any};
 ghost use Rattle.pg_game.specs.Region.{OnBadWalk};
 ghost use Rattle.pg_dominion.specs.Claim.{IsSound, IsRightRow, HasShape, named, choice_in};
 ghost use Rattle.pg_dominion.specs.Fault.{IsClaimFault};
-ghost use Rattle.pg_dominion.specs.private.Shape.{is_bad, ends_at};
-ghost use Rattle.pg_dominion.specs.KeptEdges.{IsOnBadCycle};
+ghost use Rattle.pg_dominion.specs.KeptEdges.{is_bad, ends_at, IsOnBadCycle};
 ghost use Rattle.pg_game.specs.Least.{NoneHas};
 ghost use Rattle.pg_game.specs.VertexSet.{In};
 ghost use Rattle.pg_dominion.specs.private.ListedEnds.{LeadsToListed, AreNamed};
 
 use crate::cycles::least_bad_vertex;
-use crate::notes::{is_bad, note_choice, note_test};
+use crate::notes::is_bad;
 use crate::strategy_graph::StrategyGraph;
-use pg_game::{ForwardGame, Game, Mask, Player, Sequence};
+use pg_game::{ForwardGame, Game, Player, Sequence};
 use std::alloc::{AllocError, Global};
 use std::slice;
 
@@ -259,23 +258,10 @@ fn kept_of<'g>(
     ensures bad_cycle { IfOk result (λ k. (v : ℕ) → IsOnBadCycle k v
         ↔ OnBadWalk game.now claim.now.player (named claim.now.rows) (choice_in claim.now.rows) v) }
 {
-    let n = game.len();
-    let rows = claim.rows.as_slice();
-    let mut inside = Mask::empty(alloc, n)?;
-    let mut chosen = Mask::empty(alloc, n)?;
-    let mut choices = vec![in alloc; 0u32; n as usize]?;
-    let mut bad = Mask::empty(alloc, n)?;
-    'rows: for row in rows {
+    let mut kept = StrategyGraph::new(alloc, game)?;
+    'rows: for row in claim.rows.as_slice() {
         let (v, choice) = *row;
-        inside.insert(v);
-        note_test(is_bad(game, claim.player, v), &mut bad, v);
-        note_choice(&mut chosen, &mut choices, v, choice);
+        kept.keep(v, is_bad(game, claim.player, v), choice);
     }
-    Ok(StrategyGraph {
-        game,
-        inside,
-        chosen,
-        choices,
-        bad,
-    })
+    Ok(kept)
 }

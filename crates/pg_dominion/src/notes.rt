@@ -3,7 +3,7 @@
 ghost use Rattle.std.specs.Prelude.{◌≡◌, ◌<◌, length, slice_set, None, if◌then◌else◌};
 ghost use Rattle.pg_game.specs.Graph.{owner_of};
 ghost use Rattle.pg_game.specs.Player.{same_player};
-ghost use Rattle.pg_dominion.specs.private.Shape.{is_bad, chosen_with, choices_with};
+ghost use Rattle.pg_dominion.specs.KeptEdges.{is_bad};
 
 use pg_game::{ForwardGame, Mask, Player};
 
@@ -37,15 +37,4 @@ pub fn note_test(test: bool, mask: &mut Mask, v: u32)
     } else {
         mask.remove(v);
     }
-}
-
-/// Notes whether a vertex has a choice, and which.
-pub fn note_choice(chosen: &mut Mask, choices: &mut Vec<u32>, v: u32, choice: Option<u32>)
-    requires chosen { v < length chosen.old }
-    requires choices { v < length choices.old.items }
-    ensures chosen { chosen.new ≡ chosen_with chosen.old v choice }
-    ensures choices { choices.new.items ≡ choices_with choices.old.items v choice }
-{
-    note_test(choice.is_some(), chosen, v);
-    choices[v as usize] = choice.unwrap_or(0);
 }

@@ -6,15 +6,14 @@
 ghost use Rattle.std.specs.Prelude.{◌≡◌, ℕ, ◌<◌, ◌↔◌, length, OnOk, IfOk, IfErr, IfSome, MatchOption, IsTrue};
 ghost use Rattle.pg_game.specs.Least.{NoneHas, IsLeast};
 ghost use Rattle.pg_text.specs.Solution.{IsSolution, winner_of, choice_of};
-ghost use Rattle.pg_text.specs.Verdict.{LacksChoice, HasBadChoice, Leaves, IsOnBadWalk, IsFirstLeaving};
+ghost use Rattle.pg_text.specs.Verdict.{LacksChoice, HasBadChoice, Leaves, IsFirstLeaving};
 ghost use Rattle.pg_dominion.specs.Verdict.{FailsBy};
-ghost use Rattle.pg_dominion.specs.KeptEdges.{IsOnBadCycle};
 ghost use Rattle.pg_dominion.specs.private.JointStrategy.{IsJointStrategy, LeavesTo, IsFirstTo};
 
 use crate::cycles::least_bad_vertex;
-use crate::notes::{is_bad, note_choice, note_test, own_choice};
+use crate::notes::{is_bad, own_choice};
 use crate::strategy_graph::StrategyGraph;
-use pg_game::{ForwardGame, Game, Mask, Player};
+use pg_game::{ForwardGame, Game, Player};
 use pg_text::Solution;
 use std::alloc::{AllocError, Global};
 
@@ -177,33 +176,15 @@ fn joint_strategy<'g>(
     requires right { NoneHas (HasBadChoice candidate.now.game.now candidate.now.solution.now.rows) }
     ensures game { IfOk result (λ k. k.game.now ≡ candidate.now.game.now) }
     ensures joint { IfOk result (λ k. IsJointStrategy k candidate.now.solution.now.rows) }
-    ensures bad_cycle { IfOk result (λ k. ((v w : ℕ) → Leaves candidate.now.game.now candidate.now.solution.now.rows v w → ⊥) → (v : ℕ)
-        → IsOnBadCycle k v ↔ IsOnBadWalk candidate.now.game.now candidate.now.solution.now.rows v) }
 {
     let game = candidate.game;
-    let n = game.len();
-    let mut inside = Mask::empty(alloc, n)?;
-    let mut chosen = Mask::empty(alloc, n)?;
-    let mut choices = vec![in alloc; 0u32; n as usize]?;
-    let mut bad = Mask::empty(alloc, n)?;
-    'vertices: for v in 0..n {
-        inside.insert(v);
+    let mut kept = StrategyGraph::new(alloc, game)?;
+    'vertices: for v in 0..game.len() {
         let (winner, choice) = row_at(candidate.solution, v);
-        note_test(is_bad(game, winner, v), &mut bad, v);
-        note_choice(
-            &mut chosen,
-            &mut choices,
-            v,
-            own_choice(game, winner, v, choice),
-        );
+        let own = own_choice(game, winner, v, choice);
+        kept.keep(v, is_bad(game, winner, v), own);
     }
-    Ok(StrategyGraph {
-        game,
-        inside,
-        chosen,
-        choices,
-        bad,
-    })
+    Ok(kept)
 }
 
 /// The least vertex from which a kept edge leads to the other winner, and the least vertex to which one does.
@@ -227,8 +208,6 @@ fn leaves_to(joint: &JointStrategy, v: u32) -> Option<u32>
         (IsFirstTo joint.now.kept.now joint.now.solution.now.rows v) }
     ensures within { IfSome result (λ w. w < length joint.now.kept.now.game.now) }
 {
-    // for the proof: the graph is a game, so successors rise
-    let _n = joint.kept.game.len();
     let winner = row_at(joint.solution, v).0;
     'row: for w in joint.kept.row(v) {
         if row_at(joint.solution, *w).0 != winner {

@@ -26,14 +26,13 @@ pub use Rattle.pg_game.specs.Least.{NoneHas}
 pub use Rattle.pg_game.specs.Player.{of_parity, opponent, same_player}
 pub use Rattle.pg_game.specs.Region.{OnlyGoodWalks}
 pub use Rattle.pg_game.specs.Subgame.{IsSubgame}
-pub use Rattle.pg_game.specs.VertexSet.{In, VertexSet, Within, members, no_vertices, union}
+pub use Rattle.pg_game.specs.VertexSet.{In, VertexSet, Within, members, no_vertices, union, without}
 pub use Rattle.pg_game.specs.Walk.{ClosedWalk, Walk, greatest_priority}
 pub use Rattle.pg_game.specs.declared.player.Player.{Player}
 pub use Rattle.pg_game.specs.declared.player.Player.TheVariants.{Even, Odd}
-pub use Rattle.pg_game.specs.private.VertexSet.{without}
 pub use Rattle.pg_dominion.proofs.Named.{choice-back, choice-front, named-append}
 pub use Rattle.pg_dominion.specs.Attraction.{IsAttractedRow}
-pub use Rattle.pg_dominion.specs.Claim.{ClaimRows, IsGoodIn, choice_in, named}
+pub use Rattle.pg_dominion.specs.Claim.{ClaimRows, IsGoodIn, choice_in, named, vertices}
 pub use Rattle.pg_dominion.specs.KeptEdges.{IsOnBadCycle}
 pub use Rattle.pg_dominion.specs.declared.claim.Claim.{Claim}
 pub use Rattle.pg_dominion.specs.declared.strategy_graph.StrategyGraph.{StrategyGraph}
@@ -54,9 +53,8 @@ pub use Rattle.pg_finders.specs.private.recursion.OpenLevels.{AreApart, AreOpenL
 pub use Rattle.pg_finders.specs.private.recursion.Levels.{Level, AreLevels}
 pub use Rattle.pg_finders.specs.Steps.{size, steps, steps_after, steps_left, work}
 pub use Rattle.pg_finders.specs.private.small.Partial.{AreDifferent, AreDifferentRows, Extends, ExtendsChoices, IsPartial, choice_at, no_row, vertex_in}
-pub use Rattle.pg_finders.specs.private.small.Partial.{vertices}
 pub use Rattle.pg_finders.specs.private.small.SearchSteps.{HasNoCapacity, NoneAgreesAt, StillAgreesAt}
 pub use Rattle.pg_finders.specs.private.small.Small.{LeastSoFar}
 pub use Rattle.pg_finders.specs.private.small.Walked.{IsFrom, IsReached, RowLeadsTo, Under, WalksBack}
 pub use Rattle.pg_finders.specs.private.solitaire.Leading.{Follows, IsQueue}
-pub use Rattle.pg_finders.specs.private.solitaire.Solitaire.{AreLeading, EdgeBelow, HasOneAt, IsSeen, IsSingle, choices_by, good_for, owned}
+pub use Rattle.pg_finders.specs.private.solitaire.Solitaire.{AreLeading, EdgeBelow, HasOneAt, IsForcedBelow, IsSeen, IsSingle, choices_by}

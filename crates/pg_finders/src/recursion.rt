@@ -7,7 +7,7 @@
 ghost use Rattle.std.specs.Prelude.{◌≡◌, length, IfOk, ◌≢◌, ◌≤◌, ◌+◌, ◌<◌, ◌^◌, take, ◌||◌, ℕ, All, ◌++◌, ◌∷◌, [], OnOk, true, false};
 ghost use Rattle.std.specs.Prelude.{None, Some, IsNone, IsSome, IfSome};
 ghost use Rattle.pg_game.specs.declared.player.Player.TheVariants.{Even, Odd};
-ghost use Rattle.pg_game.specs.VertexSet.{In, Within, members, union};
+ghost use Rattle.pg_game.specs.VertexSet.{In, Within, members, union, without};
 ghost use Rattle.pg_finders.specs.private.Solved.{won_inside, IsSolvedInside};
 ghost use Rattle.pg_finders.specs.private.recursion.Plans.{winners_of, choices_of, HasSize};
 ghost use Rattle.pg_finders.specs.Claims.{AreClaims, own_choices, rows_below};
@@ -17,13 +17,12 @@ ghost use Rattle.pg_finders.specs.private.recursion.TakenVertices.{active_of};
 ghost use Rattle.pg_game.specs.Player.{opponent};
 ghost use Rattle.pg_finders.specs.private.recursion.Settled.{settled_of};
 ghost use Rattle.pg_finders.specs.private.recursion.OpenLevels.{count_at};
-ghost use Rattle.pg_finders.specs.private.recursion.SolverState.{IsSolverState, how_many_gone, AreFewer, after_step, number_left};
+ghost use Rattle.pg_finders.specs.private.recursion.SolverState.{IsSolverState, how_many_gone, AreFewer, HasStopped, after_step};
 ghost use Rattle.pg_finders.specs.private.recursion.Parts.{AreParts};
 ghost use Rattle.pg_finders.specs.private.recursion.Shrunk.{aside_of, greatest_of, Loses, Shrinks, WaitsAgain, Waits, WinsBack, KeepsLists};
 ghost use Rattle.pg_finders.specs.Recursion.{IfSolved, IfRunning};
 ghost use Rattle.pg_finders.specs.Steps.{size, steps as most_steps, work};
 ghost use Rattle.std.specs.Arc.{arc_value};
-ghost use Rattle.pg_game.specs.private.VertexSet.{without};
 
 mod order;
 mod parts;
@@ -75,16 +74,6 @@ pub fn zielonka_within(
             odd: claim_of(Player::Odd, Vec::new(alloc)),
         }));
     }
-    solve(alloc, inside, limit)
-}
-
-/// The two claims of the recursion on all vertices inside; none if it needs more steps than the limit.
-fn solve(alloc: Global, inside: &Inside, limit: Option<u64>) -> Result<Option<Solved>, Memory>
-    ensures claims { IfOk result (λ found. IfSome found (λ solved. AreClaims inside.now.graph (members inside.now.mask) solved.even solved.odd)) }
-    ensures unlimited { IfOk result (λ found. limit ≡ None → IsSome found) }
-    ensures enough { IfOk result (λ found. (k : ℕ) → limit ≡ Some k → most_steps (size inside.now.mask) ≤ k → IsSome found) }
-    ensures no_steps { IfOk result (λ found. limit ≡ Some 0 → (v : ℕ) → In (members inside.now.mask) v → IsNone found) }
-{
     let view = inside.view();
     let mut solver = Solver::new(alloc, &view)?;
     let mut left = limit;
@@ -226,13 +215,9 @@ impl Solver {
     ) -> Result<Option<Solved>, Memory>
         requires { IsSolverState view.now.game.now view.now.mask.now self.old self.old.frames.items }
         ensures claims { IfOk result (λ found. IfSome found (λ solved. AreClaims view.now.game.now (members view.now.mask.now) solved.even solved.odd)) }
-        ensures running { IfOk result (λ found. IsNone found → IsSolverState view.now.game.now view.now.mask.now self.new self.new.frames.items) }
+        ensures stopped { IfOk result (λ found. IsNone found → HasStopped view.now.game.now view.now.mask.now left.old left.new self.old self.new) }
         ensures fewer { AreFewer left.old left.new }
-        ensures unlimited { IfOk result (λ found. left.old ≡ None → IsSome found) }
-        ensures all { IfOk result (λ found. IsNone found → left.new ≡ Some 0) }
         ensures no_steps { IfOk result (λ found. left.old ≡ Some 0 → (v : ℕ) → In (active_of self.old.parts.subgame) v → IsNone found) }
-        ensures spends { IfOk result (λ found. IsNone found → work (size view.now.mask.now) self.new self.new.frames.items + number_left left.old
-            ≤ work (size view.now.mask.now) self.old self.old.frames.items) }
     {
         if !self.run(view, left)? {
             return Ok(None);
@@ -253,19 +238,16 @@ impl Solver {
         ensures solved { IfOk result (λ done. done ≡ true
             → IsSolvedInside view.now.game.now (members view.now.mask.now) (winners_of self.new.parts.subgame.plan) (choices_of self.new.parts.subgame.plan)) }
         ensures size { IfOk result (λ done. done ≡ true → HasSize (length view.now.game.now) self.new.parts.subgame.plan) }
-        ensures running { IfOk result (λ done. done ≡ false → IsSolverState view.now.game.now view.now.mask.now self.new self.new.frames.items) }
+        ensures stopped { IfOk result (λ done. done ≡ false → HasStopped view.now.game.now view.now.mask.now left.old left.new self.old self.new) }
         ensures fewer { AreFewer left.old left.new }
-        ensures unlimited { IfOk result (λ done. left.old ≡ None → done ≡ true) }
-        ensures all { IfOk result (λ done. done ≡ false → left.new ≡ Some 0) }
         ensures no_steps { IfOk result (λ done. left.old ≡ Some 0 → (v : ℕ) → In (active_of self.old.parts.subgame) v → done ≡ false) }
-        ensures spends { IfOk result (λ done. done ≡ false → work (size view.now.mask.now) self.new self.new.frames.items + number_left left.old
-            ≤ work (size view.now.mask.now) self.old self.old.frames.items) }
     {
         'steps: loop {
-            if !self.spend_step(view, left) {
-                return Ok(false);
-            }
-            if self.enter(view)? {
+            if self.has_more(view) {
+                if !take_step(left) {
+                    return Ok(false);
+                }
+                self.enter(view)?;
                 continue;
             }
             let Some(frame) = self.frames.pop() else {
@@ -276,38 +258,16 @@ impl Solver {
         Ok(true)
     }
 
-    /// Takes one of the steps that are left, if a vertex is active. False if none is left.
-    fn spend_step(&self, view: &View, left: &mut Option<u64>) -> bool
-        requires { IsSolverState view.now.game.now view.now.mask.now self.now self.now.frames.items }
-        ensures fewer { AreFewer left.old left.new }
-        ensures unlimited { left.old ≡ None → result ≡ true }
-        ensures none { left.old ≡ Some 0 → (v : ℕ) → In (active_of self.now.parts.subgame) v → result ≡ false }
-        ensures all { result ≡ false → left.new ≡ Some 0 }
-        ensures one { number_left left.old ≤ 1 + number_left left.new }
-        ensures none_left { result ≡ false → number_left left.old ≡ 0 }
-    {
-        !self.has_more(view) || take_step(left)
-    }
-
-    /// Begins the active part: sets aside its vertices of the greatest priority and what they attract. False if nothing is
-    /// active.
-    fn enter(&mut self, view: &View) -> Result<bool, Memory>
-        requires { IsSolverState view.now.game.now view.now.mask.now self.old self.old.frames.items }
+    /// Begins the active part: sets aside its vertices of the greatest priority and what they attract.
+    fn enter(&mut self, view: &View) -> Result<(), Memory>
+        requires running { IsSolverState view.now.game.now view.now.mask.now self.old self.old.frames.items }
+        requires some { (v : ℕ) × In (active_of self.old.parts.subgame) v }
         ensures running { OnOk result (IsSolverState view.now.game.now view.now.mask.now self.new self.new.frames.items) }
-        ensures fewer { IfOk result (λ entered. entered ≡ true
-            → work (size view.now.mask.now) self.new self.new.frames.items < work (size view.now.mask.now) self.old self.old.frames.items) }
-        ensures same { IfOk result (λ entered. entered ≡ false
-            → work (size view.now.mask.now) self.new self.new.frames.items ≡ work (size view.now.mask.now) self.old self.old.frames.items) }
-        ensures none { IfOk result (λ entered. entered ≡ false → (v : ℕ) → active_of self.new.parts.subgame v ≡ false) }
-        ensures kept { IfOk result (λ entered. entered ≡ false → self.new.parts.subgame ≡ self.old.parts.subgame) }
+        ensures fewer { OnOk result (work (size view.now.mask.now) self.new self.new.frames.items < work (size view.now.mask.now) self.old
+            self.old.frames.items) }
     {
-        if !self.has_more(view) {
-            return Ok(false);
-        }
         let active = &self.parts.subgame.active;
-        let Some(top) = self.order.top(view.game, active) else {
-            return Ok(false);
-        };
+        let top = self.order.top(view.game, active).unwrap();
         self.order
             .list_greatest(view.game, active, top, &mut self.list)?;
         let tops = self.list.len();
@@ -315,8 +275,7 @@ impl Solver {
         self.parts.subgame.begin(view.game, player, &mut self.list)?;
         let even = self.count(Player::Even);
         let odd = self.count(Player::Odd);
-        self.wait(player, tops, even, odd)?;
-        Ok(true)
+        self.wait(player, tops, even, odd)
     }
 
     /// Sets aside the listed vertices, the first of them the greatest. Their subgame waits, with so many settled vertices of each player.
@@ -337,10 +296,11 @@ impl Solver {
         Ok(())
     }
 
-    /// Whether a vertex is neither settled nor set aside. Such a vertex is active.
+    /// Whether a vertex is active: neither settled nor set aside.
     fn has_more(&self, view: &View) -> bool
         requires { IsSolverState view.now.game.now view.now.mask.now self.now self.now.frames.items }
-        ensures { result ≡ false → (v : ℕ) → active_of self.now.parts.subgame v ≡ false }
+        ensures some { result ≡ true → (v : ℕ) × In (active_of self.now.parts.subgame) v }
+        ensures none { result ≡ false → (v : ℕ) → active_of self.now.parts.subgame v ≡ false }
     {
         // for the proof: there are so few vertices that the numbers listed add up without overflow
         let _n = view.game.len();
@@ -523,8 +483,6 @@ impl Frame {
 /// Takes one of the steps that are left. False if none is left; without a limit one always is.
 fn take_step(left: &mut Option<u64>) -> bool
     ensures one { left.new ≡ after_step left.old }
-    ensures at_most_one { number_left left.old ≤ 1 + number_left left.new }
-    ensures none_left { result ≡ false → number_left left.old ≡ 0 }
     ensures none { left.old ≡ Some 0 → result ≡ false }
     ensures all { result ≡ false → left.old ≡ Some 0 }
 {

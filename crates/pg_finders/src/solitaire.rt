@@ -4,20 +4,19 @@
 //! vertices that lead to its greatest vertex over no greater priority: a breadth-first search against the edges finds
 //! them. Without such a walk all closed walks are good for the player without a choice, who wins all vertices.
 
-ghost use Rattle.std.specs.Prelude.{◌≡◌, ℕ, ◌<◌, ◌↔◌, length, slice_index, IfOk, IfSome, IsNone, IsTrue, MatchOption, ◌⊎◌, List, OnOk};
+ghost use Rattle.std.specs.Prelude.{◌≡◌, ◌≢◌, ℕ, ◌<◌, ◌↔◌, length, Some, None, IfOk, IfSome, IsNone, IsTrue, MatchOption, ◌⊎◌, List, OnOk};
 ghost use Rattle.pg_game.specs.VertexSet.{In, members};
 ghost use Rattle.pg_game.specs.Graph.{owner_of, priority_of};
 ghost use Rattle.pg_dominion.specs.Claim.{IsGoodIn};
 ghost use Rattle.pg_finders.specs.Part.{IsOut};
-ghost use Rattle.pg_finders.specs.private.recursion.Plans.{HoldsSet};
 ghost use Rattle.pg_finders.specs.Claims.{own_choices, rows_below};
 ghost use Rattle.pg_finders.specs.Finding.{HasOneSuccessor, IsSolitaire};
-ghost use Rattle.pg_finders.specs.private.solitaire.Solitaire.{HasOneAt, IsSingle, owned, good_for, choices_by, EdgeBelow, AreLeading, IsSeen};
+ghost use Rattle.pg_finders.specs.private.solitaire.Solitaire.{HasOneAt, IsSingle, IsForcedBelow, choices_by, EdgeBelow, AreLeading, IsSeen};
 ghost use Rattle.pg_game.specs.Walk.{Walk};
 ghost use Rattle.pg_finders.specs.private.solitaire.Leading.{IsQueue, Follows};
 
 use crate::inside::{Inside, View, claim_of};
-use pg_dominion::{Claim, StrategyGraph, least_bad_vertex, own_choice};
+use pg_dominion::{Claim, StrategyGraph, is_bad, least_bad_vertex, own_choice};
 use pg_game::{Game, Mask, Player};
 use std::alloc::{AllocError, Global};
 
@@ -95,13 +94,7 @@ fn solve(alloc: Global, solitaire: &Solitaire) -> Result<Claim, AllocError>
 {
     let view = &solitaire.view;
     let forced = solitaire.forced;
-    let kept = StrategyGraph {
-        game: view.game.forward(),
-        inside: view.mask.copy(alloc)?,
-        chosen: owned_by(alloc, view, forced)?,
-        choices: single_successors(alloc, solitaire)?,
-        bad: of_parity(alloc, view, forced.other())?,
-    };
+    let kept = kept_of(alloc, solitaire)?;
     match least_bad_vertex(alloc, &kept)? {
         None => claim_of_set(alloc, view.game, forced, view.mask, kept.choices.as_slice()),
         Some(goal) => {
@@ -117,61 +110,35 @@ fn solve(alloc: Global, solitaire: &Solitaire) -> Result<Claim, AllocError>
     }
 }
 
-/// The player's vertices in the mask.
-fn owned_by(alloc: Global, view: &View, player: Player) -> Result<Mask, AllocError>
-    ensures { IfOk result (λ set. HoldsSet set (length view.now.game.now) (owned view.now.game.now (members view.now.mask.now) player)) }
-{
-    let mut set = Mask::empty(alloc, view.game.len())?;
-    for v in 0..view.game.len() {
-        if view.mask.has(v) && view.game.owner(v) == player {
-            set.insert(v);
-        }
-    }
-    Ok(set)
-}
-
-/// By vertex, the single successors of the player's vertices in the mask.
-fn single_successors(alloc: Global, solitaire: &Solitaire) -> Result<Vec<u32>, AllocError>
-    ensures size { IfOk result (λ next. length next.items ≡ length solitaire.now.view.game.now) }
-    ensures single { IfOk result (λ next. (v : ℕ) → In (members solitaire.now.view.mask.now) v
-        → owner_of solitaire.now.view.game.now v ≡ solitaire.now.forced
-        → IsSingle solitaire.now.view.game.now (members solitaire.now.view.mask.now) v (slice_index next.items v)) }
-{
-    let n = solitaire.view.game.len();
-    let mut next = Vec::with_capacity(alloc, n as usize)?;
-    for v in 0..n {
-        next.push(forced_choice(solitaire, v))?;
-    }
-    Ok(next)
-}
-
-/// The single successor of a vertex that the player owns in the mask, and 0 for another vertex.
-fn forced_choice(solitaire: &Solitaire, v: u32) -> u32
-    requires { v < length solitaire.now.view.game.now }
-    ensures { In (members solitaire.now.view.mask.now) v → owner_of solitaire.now.view.game.now v ≡ solitaire.now.forced
-        → IsSingle solitaire.now.view.game.now (members solitaire.now.view.mask.now) v result }
+/// The edges of the subgame, where the player has his single successors as choices, and his bad vertices.
+fn kept_of<'a>(alloc: Global, solitaire: &Solitaire<'a>) -> Result<StrategyGraph<'a>, AllocError>
+    ensures { IfOk result (IsForcedBelow solitaire.now.view.game.now (members solitaire.now.view.mask.now) solitaire.now.forced (length solitaire.now.view.game.now)) }
 {
     let view = &solitaire.view;
-    if !view.mask.has(v) || view.game.owner(v) != solitaire.forced {
-        return 0;
-    }
-    match single_successor(view, v) {
-        Some(w) => w,
-        None => 0,
-    }
-}
-
-/// The vertices in the mask whose priority has the player's parity.
-fn of_parity(alloc: Global, view: &View, player: Player) -> Result<Mask, AllocError>
-    ensures { IfOk result (λ set. HoldsSet set (length view.now.game.now) (good_for view.now.game.now (members view.now.mask.now) player)) }
-{
-    let mut set = Mask::empty(alloc, view.game.len())?;
-    for v in 0..view.game.len() {
-        if view.mask.has(v) && Player::of_parity(view.game.priority(v)) == player {
-            set.insert(v);
+    let game = view.game.forward();
+    let mut kept = StrategyGraph::new(alloc, game)?;
+    'vertices: for v in 0..game.len() {
+        if view.mask.has(v) {
+            let bad = is_bad(game, solitaire.forced, v);
+            kept.keep(v, bad, forced_choice(solitaire, v));
         }
     }
-    Ok(set)
+    Ok(kept)
+}
+
+/// The single successor of a vertex in the mask that the player owns, and none for another vertex.
+fn forced_choice(solitaire: &Solitaire, v: u32) -> Option<u32>
+    requires vertex { v < length solitaire.now.view.game.now }
+    requires inside { In (members solitaire.now.view.mask.now) v }
+    ensures own { owner_of solitaire.now.view.game.now v ≡ solitaire.now.forced
+        → (w : ℕ) × (result ≡ Some w) × IsSingle solitaire.now.view.game.now (members solitaire.now.view.mask.now) v w }
+    ensures other { owner_of solitaire.now.view.game.now v ≢ solitaire.now.forced → result ≡ None }
+{
+    if solitaire.view.game.owner(v) == solitaire.forced {
+        single_successor(&solitaire.view, v)
+    } else {
+        None
+    }
 }
 
 /// The claim of a set, with the player's choices from the list.

@@ -4,7 +4,7 @@ use Rattle.pg_game.proofs.Common.{Contains, IsStrictlyIncreasing, sum_by-cons, l
 use Rattle.pg_game.proofs.Common.{IsPermutation-refl, slice_get-get_or, Spec, Graph, Vertex, IsGame, no_vertex, vertex_at, id_of, successors_of, IsGameOf}
 use Rattle.pg_game.proofs.Common.{IsVertexOf, number_of, edges, different, first_fault, IsWithinLimits, ids_of}
 use Rattle.std.proofs.lemmas.Option.{get_or_from_slice_get}
-use Rattle.pg_game.specs.private.Described.{spec_at, specs_of}
+use Rattle.pg_game.specs.Described.{spec_at, specs_of}
 use Rattle.pg_game.proofs.Members.{Contains-nil}
 use Rattle.pg_game.proofs.Different.{different_most}
 use Rattle.pg_game.proofs.builder.GamesInOrder.{none_repeated}

@@ -1,5 +1,5 @@
 -- Sets of vertices, as tests.
-use Rattle.std.specs.Prelude.{ℕ, Bool, false, ◌||◌, List, length, IsTrue, nat_lt, slice_index_or, count_by}
+use Rattle.std.specs.Prelude.{ℕ, Bool, false, not, ◌&&◌, ◌||◌, List, length, IsTrue, nat_lt, slice_index_or, count_by}
 use Rattle.pg_game.specs.Graph.{Graph}
 
 abbrev pub VertexSet : Type 0
@@ -17,6 +17,10 @@ no_vertices v = false
 
 abbrev pub union : VertexSet → VertexSet → VertexSet
 union X Y v = X v || Y v
+
+-- the vertices of X that are not in Y
+abbrev pub without : VertexSet → VertexSet → VertexSet
+without X Y v = X v && not (Y v)
 
 -- the set of a mask: the places of its true entries
 abbrev pub members : List Bool → VertexSet

@@ -1,11 +1,9 @@
--- Definitions that only private functions and proofs cite: no public contract uses them.
-pub mod VertexSet
+-- Definitions that only private functions and proofs of this crate cite: no public contract uses them.
 pub mod Bits
 pub mod Stored
 pub mod Gathered
 pub mod Identifiers
 pub mod Rows
-pub mod Described
 pub mod IdentifierList
 pub mod Lines
 pub mod Resolved

@@ -12,7 +12,7 @@ use Rattle.pg_game.specs.Specification.{IsGameOf}
 use Rattle.pg_text.specs.Reading.{IsTextOf}
 use Rattle.pg_text.specs.SolutionLines.{AreRowsOf}
 use Rattle.pg_text.specs.Laws.{WrittenGameReads, WrittenSolutionReads, WrittenGameIsText, WrittenSolutionIsText}
-use Rattle.pg_game.specs.private.Described.{spec_at, specs_of}
+use Rattle.pg_game.specs.Described.{spec_at, specs_of}
 use Rattle.pg_game.proofs.UniqueGame.{described_game, one_described, described_sound}
 use Rattle.pg_text.proofs.laws.UniqueTokens.{one_spelling}
 use Rattle.pg_text.proofs.laws.UniqueGameLines.{one_reading}

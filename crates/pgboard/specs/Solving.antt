@@ -1,5 +1,5 @@
 -- The output of solving a game.
-use Rattle.std.specs.Prelude.{ℕ, ◌≡◌, Bool, true, false, List, length, Option}
+use Rattle.std.specs.Prelude.{ℕ, ◌≡◌, Bool, true, false, List, length, Option, slice_get}
 use Rattle.pg_game.specs.declared.player.Player.{Player}
 use Rattle.pg_game.specs.Graph.{Graph}
 use Rattle.pg_text.specs.Known.{KnownRows}
@@ -9,26 +9,29 @@ use Rattle.pg_text.specs.Winners.{IsWinnersText}
 use Rattle.pg_board.specs.Journal.{Journal, state_of, IsLawful}
 use Rattle.pg_board.specs.Full.{IsFull}
 use Rattle.pg_workers.specs.declared.report.ReportRow.{ReportRow}
-use Rattle.pg_workers.specs.KnownRegions.{IsKnownRegion}
+use Rattle.pg_workers.specs.KnownRegions.{IsKnownRegion, KeepsKnown}
 use Rattle.pg_workers.specs.Report.{IsInOrder, IsReport, AddsUp}
 use Rattle.pg_board.specs.Work.{total_of}
 use Rattle.pgboard.specs.KnownSource.{IsReadKnown}
 use Rattle.pgboard.specs.Run.{IsReadGame}
 use Rattle.pgboard.specs.Trace.{trace_text}
 
--- the winners alone, or the written text of a solution with choices exactly where the winner owns the vertex
-abbrev pub IsSolveText : Bool → Graph → List ℕ → Type 0
-IsSolveText true g text = IsWinnersText g text
-IsSolveText false g text = (rows : SolutionRows) × IsExactSolution g rows × (text ≡ written_solution g rows)
+-- the winners alone, or the written text of a solution with choices exactly where the winner owns the vertex, which keeps what is
+-- known: a known vertex has its winner, and its known choice where the winner owns it
+abbrev pub IsSolveText : Bool → Graph → KnownRows → List ℕ → Type 0
+IsSolveText true g known text = IsWinnersText g text
+IsSolveText false g known text =
+    (rows : SolutionRows) × IsExactSolution g rows × KeepsKnown g known (λ v. slice_get rows v) × (text ≡ written_solution g rows)
 
--- the sources had a game and what is known of it, each player's known set is a region of his, and the text is that of the game's solution
+-- the sources had a game and what is known of it, each player's known set is a region of his, and the text is that of a solution of the
+-- game which keeps what is known
 pub record IsSolveOutput (game known : Option (List ℕ)) (winners : Bool) (text : List ℕ) : Type 0 where
   pub graph : Graph
   pub rows : KnownRows
   pub game_is : IsReadGame game graph
   pub known_is : IsReadKnown graph known rows
   pub regions : (p : Player) → IsKnownRegion graph rows p
-  pub text_is : IsSolveText winners graph text
+  pub text_is : IsSolveText winners graph rows text
 
 -- the text of a lawful journal that settles every vertex, and of a report with one row for each job: this many workers drew a
 -- prefix of the jobs, and the rows say what they settled; nothing was known before

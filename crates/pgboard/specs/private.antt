@@ -1,4 +1,4 @@
--- Definitions that only private functions and proofs cite: no public contract uses them.
+-- Definitions that only private functions and proofs of this crate cite: no public contract uses them.
 pub mod Run
 pub mod Refused
 pub mod Trace

@@ -2,7 +2,7 @@
 //! `forward_game_from` without, for all else.
 
 ghost use Rattle.std.specs.Prelude.{◌≡◌, ◌≤◌, ℕ, List, [], IfOk, IfErr, length};
-ghost use Rattle.pg_game.specs.Graph.{Graph};
+ghost use Rattle.pg_game.specs.Graph.{Graph, IsGame};
 ghost use Rattle.pg_text.specs.Reading.{max_text, IsTextOf, IsSolutionFaultOf};
 ghost use Rattle.pgboard.specs.KnownSource.{IsReadKnown};
 ghost use Rattle.pgboard.specs.Refused.{IsNotKnown};
@@ -19,12 +19,16 @@ use std::alloc::Global;
 
 /// The game that the text of a source spells, with predecessors.
 pub fn game_from<S: Source>(alloc: Global, source: &mut S) -> Result<Game, RunFault>
+    ensures is_game { IfOk result (λ g. IsGame g) }
     ensures game { IfOk result (λ g. IsReadGame (S.left source.old) g) }
     ensures fault { IfErr result (λ e. IsNoGame (S.left source.old) e) }
     ensures reads { Reads result (S.read_failures source.old) (S.read_failures source.new) }
 {
     let forward = forward_game_from(alloc, source)?;
-    Ok(Game::of_forward(alloc, forward)?)
+    let game = Game::of_forward(alloc, forward)?;
+    // for the proof alone, which takes from it that the game is one
+    let _n = game.len();
+    Ok(game)
 }
 
 /// The game that the text of a source spells, without predecessors.

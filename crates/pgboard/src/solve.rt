@@ -3,9 +3,9 @@
 
 ghost use Rattle.std.specs.Prelude.{◌≡◌, ◌≤◌, ◌⊎◌, [], length, Some, None, IfOk, IfErr, ◌<◌, option_map, slice_get};
 ghost use Rattle.pg_game.specs.declared.player.Player.{Player};
-ghost use Rattle.pg_game.specs.Graph.{Graph};
+ghost use Rattle.pg_game.specs.Graph.{Graph, IsGame};
 ghost use Rattle.pg_board.specs.Work.{total_of};
-ghost use Rattle.pg_workers.specs.KnownRegions.{known_rows, IsKnownRegion, IsSolveFault};
+ghost use Rattle.pg_workers.specs.KnownRegions.{known_rows, IsKnownRegion, IsSolveFault, KeepsKnown};
 ghost use Rattle.pg_workers.specs.Outcomes.{IsOutcome};
 ghost use Rattle.pgboard.specs.Device.{HasFailed};
 ghost use Rattle.pgboard.specs.KnownSource.{left_in, IfGiven, OnGiven};
@@ -68,17 +68,20 @@ pub fn run_solve<I: Source, K: Source, O: Sink, R: Threads + Wait + Sync>(
         ⊎ (IsNoGame (I.left input.old) e ⊎ ((g : Graph) × IsReadGame (I.left input.old) g × IsNotKnown g (left_in K.left known.entry) e))) }
     ensures alone { IfErr result (λ e. known.entry ≡ None → (e ≡ RunFault.Write) ⊎ IsNoGame (I.left input.old) e) }
 {
-    let solver = Solver {
-        rt,
-        alloc,
-        options: options_of(options.workers, options.bound),
-        gate,
-        finder,
+    let of_run = options_of(options.workers, options.bound);
+    let game = game_from(alloc, input)?;
+    let known = match known {
+        Some(source) => known_from(alloc, &game, source)?,
+        None => nothing_known(alloc),
     };
-    match known {
-        Some(known) => solver.solve_from_known(input, known, out, options.winners),
-        None => solver.solve_from_nothing(input, out, options.winners),
-    }
+    let start = KnownOf {
+        game: &game,
+        known: &known,
+    };
+    // the journal takes as much memory as the solution, and is freed before the text is made
+    let solution = outcome(rt, alloc, &start, &of_run, gate, finder)?.solution;
+    let text = text_of(alloc, &start, &solution, options.winners)?;
+    write_all(text.as_slice(), out)
 }
 
 /// Reads a game, solves it, and writes the journal of the run and the results of each job. The errors are those of
@@ -98,22 +101,14 @@ pub fn run_trace<I: Source, O: Sink, R: Threads + Wait + Sync>(
         result (O.taken out.old) (O.taken out.new) (O.write_failures out.old) (O.write_failures out.new) }
     ensures fault { IfErr result (λ e. (e ≡ RunFault.Write) ⊎ IsNoGame (I.left input.old) e) }
 {
-    let solver = Solver {
-        rt,
-        alloc,
-        options: options_of(workers, TRACE_BOUND),
-        gate,
-        finder,
-    };
     let game = game_from(alloc, input)?;
-    // for the proof alone, which takes from it that the game is one
-    let _n = game.len();
     let known = nothing_known(alloc);
     let start = KnownOf {
         game: &game,
         known: &known,
     };
-    let outcome = solver.outcome(&start)?;
+    let of_run = options_of(workers, TRACE_BOUND);
+    let outcome = outcome(rt, alloc, &start, &of_run, gate, finder)?;
     let entries = outcome.entries.as_slice();
     let report = outcome.report.as_slice();
     let text = write_trace(alloc, &game, entries, report)?;
@@ -135,97 +130,24 @@ fn options_of(workers: u32, bound: u32) -> Options
     }
 }
 
-/// What a run that solves a game needs beside the game: its handle, its allocator, its options, and what its workers call.
-#[derive(Drop)]
-struct Solver<'x, G, F, R> {
-    rt: &'x R,
+/// The outcome of solving a game from what is known of it.
+fn outcome<R: Threads + Wait + Sync>(
+    rt: &R,
     alloc: Global,
-    options: Options,
-    gate: &'x G,
-    finder: &'x F,
-    ghost workers: { (1 ≤ options.workers) × (options.workers ≤ 64) },
-    ghost bound: { options.bound ≤ 8 },
-}
-
-impl<G: Gate, F: Finder, R: Threads + Wait + Sync> Solver<'_, G, F, R> {
-    /// Reads a game and then what is known of it, solves it, and writes its solution or its winners.
-    fn solve_from_known<I: Source, K: Source, O: Sink>(
-        &self,
-        input: &mut I,
-        known: &mut K,
-        out: &mut O,
-        winners: bool,
-    ) -> Result<(), RunFault>
-        ensures reads { ReadsInTurn result (I.left input.old) (I.read_failures input.old) (I.read_failures input.new) (known.new ≡ known.old)
-            (K.read_failures known.new ≡ K.read_failures known.old) (HasFailed (K.read_failures known.old) (K.read_failures known.new)) }
-        ensures writes { Writes (λ _ text. IsSolveOutput (I.left input.old) (K.left known.old) winners text)
-            result (O.taken out.old) (O.taken out.new) (O.write_failures out.old) (O.write_failures out.new) }
-        ensures fault { IfErr result (λ e. (e ≡ RunFault.Write)
-            ⊎ (IsNoGame (I.left input.old) e ⊎ ((g : Graph) × IsReadGame (I.left input.old) g × IsNotKnown g (K.left known.old) e))) }
-    {
-        let game = game_from(self.alloc, input)?;
-        let known = known_from(self.alloc, &game, known)?;
-        let start = KnownOf {
-            game: &game,
-            known: &known,
-        };
-        let text = self.text(&start, winners)?;
-        write_all(text.as_slice(), out)
-    }
-
-    /// Reads a game of which nothing is known, solves it, and writes its solution or its winners.
-    fn solve_from_nothing<I: Source, O: Sink>(
-        &self,
-        input: &mut I,
-        out: &mut O,
-        winners: bool,
-    ) -> Result<(), RunFault>
-        ensures reads { Reads result (I.read_failures input.old) (I.read_failures input.new) }
-        ensures writes { Writes (λ _ text. IsSolveOutput (I.left input.old) (Some []) winners text)
-            result (O.taken out.old) (O.taken out.new) (O.write_failures out.old) (O.write_failures out.new) }
-        ensures fault { IfErr result (λ e. (e ≡ RunFault.Write) ⊎ IsNoGame (I.left input.old) e) }
-    {
-        let game = game_from(self.alloc, input)?;
-        // for the proof alone, which takes from it that the game is one
-        let _n = game.len();
-        let known = nothing_known(self.alloc);
-        let start = KnownOf {
-            game: &game,
-            known: &known,
-        };
-        let text = self.text(&start, winners)?;
-        write_all(text.as_slice(), out)
-    }
-
-    /// The text of the game's solution, or of its winners alone.
-    fn text(&self, start: &KnownOf<'_>, winners: bool) -> Result<Vec<u8>, RunFault>
-        ensures text { IfOk result (λ text. IsSolveText winners start.now.game.now text.items) }
-        ensures regions { IfOk result (λ _. (p : Player) → IsKnownRegion start.now.game.now start.now.known.now.rows p) }
-        ensures fault { IfErr result (λ e. IsUnsolved start.now.game.now start.now.known.now.rows e) }
-    {
-        // the journal takes as much memory as the solution, and is freed before the text is made
-        let solution = self.outcome(start)?.solution;
-        Ok(text_of(self.alloc, start.game, &solution, winners)?)
-    }
-
-    /// The outcome of solving a game from what is known of it.
-    fn outcome(&self, start: &KnownOf<'_>) -> Result<Outcome, RunFault>
-        ensures outcome { IfOk result (λ o. IsOutcome start.now.game.now start.now.known.now.rows
-            (total_of self.now.options.bound (length start.now.game.now)) self.now.options.workers o) }
-        ensures fault { IfErr result (λ e. IsUnsolved start.now.game.now start.now.known.now.rows e) }
-    {
-        match solve_game(
-            self.rt,
-            self.alloc,
-            start.game,
-            &self.options,
-            start.known,
-            self.gate,
-            self.finder,
-        ) {
-            Ok(outcome) => Ok(outcome),
-            Err(fault) => Err(unsolved(start, fault)),
-        }
+    of: &KnownOf<'_>,
+    options: &Options,
+    gate: &impl Gate,
+    finder: &impl Finder,
+) -> Result<Outcome, RunFault>
+    requires workers { (1 ≤ options.now.workers) × (options.now.workers ≤ 64) }
+    requires bound { options.now.bound ≤ 8 }
+    ensures outcome { IfOk result (λ o. IsOutcome of.now.game.now of.now.known.now.rows
+        (total_of options.now.bound (length of.now.game.now)) options.now.workers o) }
+    ensures fault { IfErr result (λ e. IsUnsolved of.now.game.now of.now.known.now.rows e) }
+{
+    match solve_game(rt, alloc, of.game, options, of.known, gate, finder) {
+        Ok(outcome) => Ok(outcome),
+        Err(fault) => Err(unsolved(of, fault)),
     }
 }
 
@@ -301,17 +223,17 @@ fn is_known_of(known: &Known, player: Player, v: u32) -> bool
 /// The text of a game's solution, or of its winners alone.
 fn text_of(
     alloc: Global,
-    game: &Game,
+    of: &KnownOf<'_>,
     solution: &Solution,
     winners: bool,
 ) -> Result<Vec<u8>, Memory>
-    requires { IsExactSolution game.now solution.now.rows }
-    ensures { IfOk result (λ text. IsSolveText winners game.now text.items) }
+    requires game { IsGame of.now.game.now }
+    requires exact { IsExactSolution of.now.game.now solution.now.rows }
+    requires kept { KeepsKnown of.now.game.now of.now.known.now.rows (λ v. slice_get solution.now.rows v) }
+    ensures { IfOk result (λ text. IsSolveText winners of.now.game.now of.now.known.now.rows text.items) }
 {
-    // for the proof alone, which takes from it that the game is one
-    let _n = game.len();
     if winners {
-        return write_winners(alloc, game, solution);
+        return write_winners(alloc, of.game, solution);
     }
-    write_solution(alloc, game, solution)
+    write_solution(alloc, of.game, solution)
 }

@@ -102,6 +102,10 @@ IsStateOutcome old new = IsReadOutcome
     (λ s. HaveSize s.graph (result_lists new) × AreStates s new.winners.now new.choices.now × IsSameStruct old new)
     (λ s. AreUnfitResults s.graph (result_lists old)) (AreUnchanged old new)
 
+-- the board is not full: this many vertices are unsettled
+abbrev pub IsUnsettledBy : BoardRecord → ℕ → Type 0
+IsUnsettledBy s n = (IsFull s.graph (state_of s.journal) → ⊥) × (n + number_settled s.journal ≡ length s.graph)
+
 -- every vertex is settled, by further entries of worker 0
 abbrev pub IsFinished : BoardRecord → BoardRecord → Type 0
 IsFinished s t = IsFull t.graph (state_of t.journal) × IsContinued s t
@@ -119,20 +123,20 @@ abbrev pub IsContinuedOn : Option SessionRecord → Option SessionRecord → Typ
 IsContinuedOn None new = new ≡ None
 IsContinuedOn (Some s) new = (t : SessionRecord) × (new ≡ Some t) × IsContinued s.board t.board
 
--- why a board is not full yet: a vertex is unsettled, or memory was refused
+-- why a board is not full yet: this many vertices are unsettled, or memory was refused
 abbrev pub IsAdvanceFault : BoardRecord → Fault → Type 0
-IsAdvanceFault s fault.GaveUp = IsFull s.graph (state_of s.journal) → ⊥
+IsAdvanceFault s (fault.Board (board_fault.Unsettled n)) = IsUnsettledBy s n
 IsAdvanceFault s other = other ≡ fault.Memory
 
--- where it gave up, fewer slices remain: by one at least if it might take a step, and by as many as it took
+-- where vertices are unsettled, fewer slices remain: by one at least if it might take a step, and by as many as it took
 abbrev pub IsNearer : ℕ → ℕ → Option SessionRecord → Option SessionRecord → Fault → Type 0
-IsNearer old_steps new_steps old new fault.GaveUp =
+IsNearer old_steps new_steps old new (fault.Board (board_fault.Unsettled n)) =
     (0 < old_steps → slices_in new < slices_in old) × (slices_in new + (old_steps - new_steps) ≤ slices_in old)
 IsNearer old_steps new_steps old new other = Unit {0}
 
--- where it gave up, it has left of its steps what a slice of that session leaves: all after a search, and none after one of the recursion
+-- where vertices are unsettled, it has left of its steps what a slice of that session leaves: all after a search, and none after one of the recursion
 abbrev pub HasCharged : ℕ → ℕ → Option SessionRecord → Fault → Type 0
-HasCharged old_steps new_steps old fault.GaveUp = IfSome old (λ s. IsCharged (length s.board.graph) s.slices old_steps new_steps)
+HasCharged old_steps new_steps old (fault.Board (board_fault.Unsettled n)) = IfSome old (λ s. IsCharged (length s.board.graph) s.slices old_steps new_steps)
 HasCharged old_steps new_steps old other = Unit {0}
 
 -- more is settled, also where there is a fault
@@ -156,8 +160,7 @@ pub record AreSolution (s : BoardRecord) (r : ResultLists) : Type 0 where
 -- why a board has no solution; refused memory says nothing of it
 abbrev pub IsSolutionFault : BoardRecord → ResultLists → Fault → Type 0
 IsSolutionFault s r fault.Memory = Unit {0}
-IsSolutionFault s r (fault.Board (board_fault.Unsettled n)) =
-    HaveSize s.graph r × (IsFull s.graph (state_of s.journal) → ⊥) × (n + number_settled s.journal ≡ length s.graph)
+IsSolutionFault s r (fault.Board (board_fault.Unsettled n)) = HaveSize s.graph r × IsUnsettledBy s n
 IsSolutionFault s r e = AreUnfitResults s.graph r e
 
 abbrev pub IsSolutionOutcome : Results → Results → SessionOutcome

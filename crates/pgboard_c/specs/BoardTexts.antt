@@ -1,15 +1,15 @@
 -- The solution of a board as a text, and why there is none.
-use Rattle.std.specs.Prelude.{ℕ, ◌≡◌, ◌<◌, ◌+◌, List, length}
+use Rattle.std.specs.Prelude.{ℕ, ◌≡◌, ◌<◌, List, length}
 use Rattle.pg_text.specs.Solution.{SolutionRows, IsExactSolution}
 use Rattle.pg_text.specs.Written.{written_solution}
 use Rattle.pg_board.specs.BoardRecord.{BoardRecord}
-use Rattle.pg_board.specs.Journal.{state_of, number_settled}
+use Rattle.pg_board.specs.Journal.{state_of}
 use Rattle.pg_board.specs.Full.{IsFull, AreStateRows}
 use Rattle.pgboard_c.specs.declared.fault.BoardFault.TheVariants as board_fault
 use Rattle.pgboard_c.specs.declared.fault.Fault.{Fault}
 use Rattle.pgboard_c.specs.declared.fault.Fault.TheVariants as fault
 use Rattle.pgboard_c.specs.Texts.{TextBuffer, IsWritten}
-use Rattle.pgboard_c.specs.Board.{SessionOutcome, IsReadOutcome}
+use Rattle.pgboard_c.specs.Board.{SessionOutcome, IsReadOutcome, IsUnsettledBy}
 
 -- the board is full, and the text has its winners and choices, which are the game's solution
 abbrev pub IsSolutionText : BoardRecord → List ℕ → Type 0
@@ -19,8 +19,7 @@ IsSolutionText s text = IsFull s.graph (state_of s.journal) × ((rows : Solution
 -- why a board's solution is not written; refused memory says nothing of it
 abbrev pub IsSolutionTextFault : BoardRecord → ℕ → Fault → Type 0
 IsSolutionTextFault s capacity fault.Memory = Unit {0}
-IsSolutionTextFault s capacity (fault.Board (board_fault.Unsettled n)) =
-    (IsFull s.graph (state_of s.journal) → ⊥) × (n + number_settled s.journal ≡ length s.graph)
+IsSolutionTextFault s capacity (fault.Board (board_fault.Unsettled n)) = IsUnsettledBy s n
 IsSolutionTextFault s capacity (fault.Capacity size) = (text : List ℕ) × IsSolutionText s text × (size ≡ length text) × (capacity < size)
 IsSolutionTextFault s capacity other = ⊥
 

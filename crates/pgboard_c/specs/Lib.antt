@@ -8,4 +8,5 @@ pub mod Board
 pub mod BoardTexts
 pub mod Posting
 pub mod Entries
+pub mod Vertices
 pub mod Text

@@ -51,20 +51,20 @@ abbrev pub answer : ℕ → ℕ → ℕ → Answer
 answer number at to = record { number = number; at = at; to = to }
 
 abbrev pub game_answer : GameFault → Answer
+game_answer game.Memory = answer 1 0 0
 game_answer game.NoVertex = answer 10 0 0
 game_answer game.TooManyVertices = answer 11 0 0
 game_answer (game.Twice id) = answer 12 id 0
 game_answer (game.NoSuccessor id) = answer 13 id 0
 game_answer game.TooManyEdges = answer 14 0 0
 game_answer (game.Unknown id to) = answer 15 id to
-game_answer game.Memory = answer 1 0 0
 
 abbrev pub verdict_answer : SolutionFault → Answer
+verdict_answer verdict.Memory = answer 1 0 0
 verdict_answer (verdict.NoChoice id) = answer 20 id 0
 verdict_answer (verdict.BadChoice id) = answer 21 id 0
 verdict_answer (verdict.Leaves id to) = answer 22 id to
 verdict_answer (verdict.Cycle id) = answer 23 id 0
-verdict_answer verdict.Memory = answer 1 0 0
 
 abbrev pub known_answer : KnownSetFault → Answer
 known_answer (known.Choice v) = answer 60 v 0
@@ -73,14 +73,15 @@ known_answer (known.Lost v) = answer 62 v 0
 known_answer (known.Leaves v w) = answer 63 v w
 
 abbrev pub text_answer : TextFault → Answer
+text_answer text.Memory = answer 1 0 0
 text_answer (text.Lexical at) = answer 31 at 0
 text_answer (text.Syntax at) = answer 32 at 0
 text_answer (text.Number at) = answer 33 at 0
 text_answer (text.Owner at) = answer 34 at 0
 text_answer (text.Game f) = game_answer f
-text_answer text.Memory = answer 1 0 0
 
 abbrev pub solution_answer : SolutionTextFault → Answer
+solution_answer solution.Memory = answer 1 0 0
 solution_answer (solution.Lexical at) = answer 41 at 0
 solution_answer (solution.Syntax at) = answer 42 at 0
 solution_answer (solution.Number at) = answer 43 at 0
@@ -88,17 +89,17 @@ solution_answer (solution.Winner at) = answer 44 at 0
 solution_answer (solution.Stranger id) = answer 45 id 0
 solution_answer (solution.Twice id) = answer 46 id 0
 solution_answer (solution.Missing id) = answer 47 id 0
-solution_answer solution.Memory = answer 1 0 0
 
 abbrev pub board_answer : BoardFault → Answer
 board_answer board.Open = answer 70 0 0
 board_answer board.Closed = answer 71 0 0
 board_answer (board.Entry count) = answer 72 count 0
 board_answer (board.Unsettled count) = answer 73 count 0
+board_answer (board.Vertex count) = answer 74 count 0
 
 abbrev pub post_answer : PostFault → Answer
 post_answer (post.Player player) = answer 80 player 0
-post_answer (post.Lengths vertices choices) = answer 81 vertices choices
+post_answer (post.Lengths m n) = answer 81 m n
 post_answer (post.Shape row) = answer 82 row 0
 post_answer (post.Cycle v) = answer 83 v 0
 post_answer (post.Lost v) = answer 84 v 0
@@ -108,25 +109,25 @@ post_answer (post.Open v w) = answer 86 v w
 -- the number of the answer, and its two places: vertices, a row, a place in a text, a size or count, or an array or a struct by its number
 abbrev pub answer_of : Fault → Answer
 answer_of fault.Memory = answer 1 0 0
-answer_of (fault.Lengths a) = answer 2 (array_number a) 0
+answer_of (fault.Lengths array) = answer 2 (array_number array) 0
 answer_of (fault.Row v) = answer 3 v 0
 answer_of (fault.Owner v) = answer 4 v 0
 answer_of (fault.Priority v) = answer 5 v 0
-answer_of (fault.Results a) = answer 6 (array_number a) 0
+answer_of (fault.Results array) = answer 6 (array_number array) 0
 answer_of (fault.Winner v) = answer 7 v 0
-answer_of (fault.Solution a) = answer 8 (array_number a) 0
-answer_of (fault.Size s) = answer 9 (structure_number s) (structure_size s)
+answer_of (fault.Solution array) = answer 8 (array_number array) 0
+answer_of (fault.Size it) = answer 9 (structure_number it) (structure_size it)
+answer_of fault.GameTooLong = answer 30 0 0
+answer_of fault.SolutionTooLong = answer 40 0 0
+answer_of (fault.Capacity size) = answer 50 size 0
+answer_of fault.GaveUp = answer 90 0 0
 answer_of (fault.Game f) = game_answer f
 answer_of (fault.Verdict f) = verdict_answer f
 answer_of (fault.Known f) = known_answer f
-answer_of fault.GameTooLong = answer 30 0 0
 answer_of (fault.GameText f) = text_answer f
-answer_of fault.SolutionTooLong = answer 40 0 0
 answer_of (fault.SolutionText f) = solution_answer f
-answer_of (fault.Capacity size) = answer 50 size 0
 answer_of (fault.Board f) = board_answer f
 answer_of (fault.Post f) = post_answer f
-answer_of fault.GaveUp = answer 90 0 0
 
 -- the answer is the fault's number, and the report has its places
 abbrev pub IsReported : Fault → ℕ → Report → Type 0

@@ -8,6 +8,7 @@ board_text n =
     if n == 71 then codes "the board is not open\0" else
     if n == 72 then codes "the board has no entry of this number\0" else
     if n == 73 then codes "the board has unsettled vertices\0" else
+    if n == 74 then codes "the board has no vertex of this number\0" else
     if n == 80 then codes "the claim's player is neither 0 nor 1\0" else
     if n == 81 then codes "the claim's arrays have different lengths\0" else
     if n == 82 then codes "a row of the claim is wrong\0" else
@@ -34,7 +35,7 @@ reading_text n =
     if n == 45 then codes "the solution's text has a vertex that is not in the game\0" else
     if n == 46 then codes "the solution's text has two lines for a vertex\0" else
     if n == 47 then codes "the solution's text has no line for a vertex\0" else
-    if n == 50 then codes "the buffer is smaller than the text, or an array than the entry\0" else
+    if n == 50 then codes "the buffer is smaller than the text, or an array than what it is to have\0" else
     if n == 60 then codes "a vertex that its owner is known to win has no choice that is a successor\0" else
     if n == 61 then codes "the greatest priority on a closed walk in what a player is known to win is the other's\0" else
     if n == 62 then codes "Even attracts a vertex that is known for Odd to what is known for Even\0" else

@@ -1,2 +1,2 @@
--- Definitions that only private functions and proofs cite: no public contract uses them.
+-- Definitions that only private functions and proofs of this crate cite: no public contract uses them.
 pub mod Held

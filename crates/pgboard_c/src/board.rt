@@ -134,9 +134,9 @@ pub extern "C" fn pgboard_board_finish_within(
 }
 
 /// Settles more of what is left, as worker 0: one search of [`pgboard_board_finish`], or after the last search up to so many steps of
-/// the recursion. Leaves how many steps are left. The answer is 0 once all is settled, and that of [`Fault::GaveUp`] before. What it
-/// has settled stays, whatever the answer. Called again it goes on where it was; an accepted post in between has it begin anew. While
-/// it answers that it gave up, each call with a step to take leaves fewer slices.
+/// the recursion. Leaves how many steps are left. The answer is 0 once all is settled, and that of [`BoardFault::Unsettled`] before.
+/// What it has settled stays, whatever the answer. Called again it goes on where it was; an accepted post in between has it begin anew.
+/// While vertices are unsettled, each call with a step to take leaves fewer slices.
 #[unsafe(no_mangle)]
 pub extern "C" fn pgboard_board_advance(
     alloc: Global,
@@ -366,8 +366,12 @@ fn advance(alloc: Global, board: &mut Handle, steps: &mut u64) -> Result<(), Fau
 {
     let mut session = board.take(alloc)?;
     let is_full = session.advance(alloc, steps);
+    let unsettled = u64::from(session.game().len()) - session.settled();
     *board = Handle::holding(session);
-    if is_full? { Ok(()) } else { Err(Fault::GaveUp) }
+    if is_full? {
+        return Ok(());
+    }
+    Err(Fault::Board(BoardFault::Unsettled(unsettled)))
 }
 
 /// Writes the solution of the board of the handle.

@@ -93,6 +93,8 @@ pub enum BoardFault {
     Entry(usize),
     /// The board is not full; this is the number of unsettled vertices.
     Unsettled(u64),
+    /// No vertex has the number; this is the number of vertices.
+    Vertex(u32),
 }
 
 /// Why a claim is not posted. Faults have vertices, but for those of the claim's own arrays.
@@ -149,7 +151,8 @@ pub enum Fault {
     SolutionTooLong,
     /// The text is no solution text of the game. Never `SolutionTextFault::Memory`.
     SolutionText(SolutionTextFault),
-    /// The buffer is smaller than the text, or an array than an entry; this is the size of the text, or the number of rows.
+    /// The buffer is smaller than the text, or an array than what it is to have; this is the size of the text, or the number of rows
+    /// or of successors.
     Capacity(usize),
     /// The board has no answer.
     Board(BoardFault),
@@ -230,13 +233,13 @@ impl Answer {
         ensures above { 0 < result.number }
     {
         match fault {
+            GameFault::Memory => Answer::new(1, 0, 0),
             GameFault::NoVertex => Answer::new(10, 0, 0),
             GameFault::TooManyVertices => Answer::new(11, 0, 0),
             GameFault::Twice(id) => Answer::new(12, u64::from(id), 0),
             GameFault::NoSuccessor(id) => Answer::new(13, u64::from(id), 0),
             GameFault::TooManyEdges => Answer::new(14, 0, 0),
             GameFault::Unknown(id, to) => Answer::new(15, u64::from(id), u64::from(to)),
-            GameFault::Memory => Answer::new(1, 0, 0),
         }
     }
 
@@ -246,11 +249,11 @@ impl Answer {
         ensures above { 0 < result.number }
     {
         match fault {
+            SolutionFault::Memory => Answer::new(1, 0, 0),
             SolutionFault::NoChoice(id) => Answer::new(20, u64::from(id), 0),
             SolutionFault::BadChoice(id) => Answer::new(21, u64::from(id), 0),
             SolutionFault::Leaves(id, to) => Answer::new(22, u64::from(id), u64::from(to)),
             SolutionFault::Cycle(id) => Answer::new(23, u64::from(id), 0),
-            SolutionFault::Memory => Answer::new(1, 0, 0),
         }
     }
 
@@ -273,12 +276,12 @@ impl Answer {
         ensures above { 0 < result.number }
     {
         match fault {
+            TextFault::Memory => Answer::new(1, 0, 0),
             TextFault::Lexical(at) => Answer::new(31, u64::from(at), 0),
             TextFault::Syntax(at) => Answer::new(32, u64::from(at), 0),
             TextFault::Number(at) => Answer::new(33, u64::from(at), 0),
             TextFault::Owner(at) => Answer::new(34, u64::from(at), 0),
             TextFault::Game(fault) => Answer::of_game(fault),
-            TextFault::Memory => Answer::new(1, 0, 0),
         }
     }
 
@@ -288,6 +291,7 @@ impl Answer {
         ensures above { 0 < result.number }
     {
         match fault {
+            SolutionTextFault::Memory => Answer::new(1, 0, 0),
             SolutionTextFault::Lexical(at) => Answer::new(41, u64::from(at), 0),
             SolutionTextFault::Syntax(at) => Answer::new(42, u64::from(at), 0),
             SolutionTextFault::Number(at) => Answer::new(43, u64::from(at), 0),
@@ -295,7 +299,6 @@ impl Answer {
             SolutionTextFault::Stranger(id) => Answer::new(45, u64::from(id), 0),
             SolutionTextFault::Twice(id) => Answer::new(46, u64::from(id), 0),
             SolutionTextFault::Missing(id) => Answer::new(47, u64::from(id), 0),
-            SolutionTextFault::Memory => Answer::new(1, 0, 0),
         }
     }
 
@@ -309,6 +312,7 @@ impl Answer {
             BoardFault::Closed => Answer::new(71, 0, 0),
             BoardFault::Entry(count) => Answer::new(72, count as u64, 0),
             BoardFault::Unsettled(count) => Answer::new(73, count, 0),
+            BoardFault::Vertex(count) => Answer::new(74, u64::from(count), 0),
         }
     }
 
@@ -319,11 +323,7 @@ impl Answer {
     {
         match fault {
             PostFault::Player(player) => Answer::new(80, u64::from(player), 0),
-            PostFault::Lengths(vertices, choices) => Answer::new(
-                81,
-                vertices as u64,
-                choices as u64,
-            ),
+            PostFault::Lengths(m, n) => Answer::new(81, m as u64, n as u64),
             PostFault::Shape(row) => Answer::new(82, u64::from(row), 0),
             PostFault::Cycle(v) => Answer::new(83, u64::from(v), 0),
             PostFault::Lost(v) => Answer::new(84, u64::from(v), 0),
@@ -347,17 +347,17 @@ impl Answer {
             Fault::Winner(v) => Answer::new(7, v as u64, 0),
             Fault::Solution(array) => Answer::new(8, array.number(), 0),
             Fault::Size(it) => Answer::new(9, it.number(), it.size() as u64),
+            Fault::GameTooLong => Answer::new(30, 0, 0),
+            Fault::SolutionTooLong => Answer::new(40, 0, 0),
+            Fault::Capacity(size) => Answer::new(50, size as u64, 0),
+            Fault::GaveUp => Answer::new(90, 0, 0),
             Fault::Game(fault) => Answer::of_game(fault),
             Fault::Verdict(fault) => Answer::of_verdict(fault),
             Fault::Known(fault) => Answer::of_known(fault),
-            Fault::GameTooLong => Answer::new(30, 0, 0),
             Fault::GameText(fault) => Answer::of_text(fault),
-            Fault::SolutionTooLong => Answer::new(40, 0, 0),
             Fault::SolutionText(fault) => Answer::of_solution(fault),
-            Fault::Capacity(size) => Answer::new(50, size as u64, 0),
             Fault::Board(fault) => Answer::of_board(fault),
             Fault::Post(fault) => Answer::of_post(fault),
-            Fault::GaveUp => Answer::new(90, 0, 0),
         }
     }
 }

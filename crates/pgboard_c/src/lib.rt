@@ -13,3 +13,4 @@ mod known;
 mod on_arrays;
 mod on_texts;
 mod text;
+mod vertices;

@@ -67,7 +67,7 @@ fn reading_text(answer: u32) -> &'static [u8]
         45 => b"the solution's text has a vertex that is not in the game\0",
         46 => b"the solution's text has two lines for a vertex\0",
         47 => b"the solution's text has no line for a vertex\0",
-        50 => b"the buffer is smaller than the text, or an array than the entry\0",
+        50 => b"the buffer is smaller than the text, or an array than what it is to have\0",
         60 => b"a vertex that its owner is known to win has no choice that is a successor\0",
         61 =>
             b"the greatest priority on a closed walk in what a player is known to win is the other's\0",
@@ -86,6 +86,7 @@ fn board_text(answer: u32) -> &'static [u8]
         71 => b"the board is not open\0",
         72 => b"the board has no entry of this number\0",
         73 => b"the board has unsettled vertices\0",
+        74 => b"the board has no vertex of this number\0",
         80 => b"the claim's player is neither 0 nor 1\0",
         81 => b"the claim's arrays have different lengths\0",
         82 => b"a row of the claim is wrong\0",

@@ -35,9 +35,9 @@ pub record IsLawfulRecord (x : BoardRecord) : Type 0 where
   pub game : IsGame x.graph
   pub lawful : IsLawful x.graph x.journal
 
-pub lawful_record : {x : BoardRecord} {g : Graph} {j : Journal} {r : Regions} {number : ℕ} → record { graph = g; journal = j } ≡ x → IsGame g
+pub lawful_record : {x : BoardRecord} {g : Graph} {j : Journal} {r : Regions} {number : ℕ} → record { graph = g; journal = j } ≡ x
     → IsBoard g j r number → IsLawfulRecord x
-lawful_record view game board = subst IsLawfulRecord view (record { game = game; lawful = board.lawful })
+lawful_record view board = subst IsLawfulRecord view (record { game = board.game; lawful = board.lawful })
 
 added_by : {x new : BoardRecord} {worker : ℕ} {claim : Claim} {posted : Posted} → IsLawfulRecord x → IsGoodOn x.graph (state_of x.journal) claim.player claim.rows
     → (a : Adds x new worker claim posted) → IsAdded x.graph x.journal claim.player claim.rows a.entry

@@ -13,7 +13,7 @@ use Rattle.pg_board.proofs.Lawful.{lawful_push}
 use Rattle.pg_board.proofs.Numbers.{lawful_now, number_within, sum_fits, all_named}
 use Rattle.std.proofs.lemmas.Bool.{and_from}
 use Rattle.pg_dominion.specs.AttractorState.{AttractsNoFurther}
-use Rattle.pg_dominion.specs.private.FreeVertices.{LeadFrom}
+use Rattle.pg_dominion.specs.ExtendedRows.{LeadFrom}
 use Rattle.pg_dominion.proofs.AttractionSteps.{grown_attraction, grown_rows}
 use Rattle.pg_dominion.proofs.TakenRow.{lead_none}
 use Rattle.pg_board.specs.private.WrittenRows.{WritesInTurn}
@@ -71,7 +71,6 @@ module _ (g : Graph) (j : Journal) (p : Player) (R A : ClaimRows) (e : Entry) (h
 
 -- a claim that is its own rest, before it is entered
 pub record IsEntering (g : Graph) (j : Journal) (r : Regions) (number : ℕ) (p : Player) (R : ClaimRows) : Type 0 where
-  pub game : IsGame g
   pub board : IsBoard g j r number
   pub good : IsGoodOn g (state_of j) p R
   pub twice : rest_of (state_of j) R ≡ R
@@ -132,7 +131,7 @@ module _ {g : Graph} {j : Journal} {r : Regions} {number : ℕ} {p : Player} {R 
   module _ {r2 : Regions} {rows : ClaimRows} (grown : HasGrown g p r r2 R rows) where
     module _ (e : Entry) (has : HasRows e p R rows) where
       enters : Enters g j p R (drop (length R) rows) e
-      enters = search (rules, q.game, q.board.lawful, q.good, q.twice, opened, grown.attraction, has.claimed, has.rows_are, grown.parts)
+      enters = search (rules, q.board.game, q.board.lawful, q.good, q.twice, opened, grown.attraction, has.claimed, has.rows_are, grown.parts)
 
       pub entry_answers : Answers g (state_of j) p R e
       entry_answers = answered g j p R (drop (length R) rows) e enters
@@ -142,6 +141,8 @@ module _ {g : Graph} {j : Journal} {r : Regions} {number : ℕ} {p : Player} {R 
 
       pub board_entered : (n : ℕ) → n ≡ length e.rows → IsBoard g (j ++ e ∷ []) r2 (number + n)
       board_entered n size = record {
+        game = q.board.game;
+        limits = q.board.limits;
         lawful = lawful_more g j p R (drop (length R) rows) e enters;
         regions = grown.regions;
         state = λ v. search (rules, fun_ext q.board.state, has.rows_are, grown.tells, q.board.state, enters, state_push);

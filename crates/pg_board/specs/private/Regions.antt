@@ -1,7 +1,8 @@
 -- The tables of a board beside its journal.
 use Rattle.std.specs.Prelude.{ℕ, ◌≡◌, List, length, Some, None, if◌then◌else◌, slice_index_or}
 use Rattle.pg_game.specs.declared.player.Player.{Player}
-use Rattle.pg_game.specs.Graph.{Graph}
+use Rattle.pg_game.specs.Graph.{Graph, IsGame}
+use Rattle.pg_game.specs.Limits.{IsWithinLimits}
 use Rattle.pg_game.specs.VertexSet.{members}
 use Rattle.pg_dominion.specs.Claim.{ClaimRows, named, choice_in}
 use Rattle.pg_board.specs.declared.regions.Regions.{Regions}
@@ -26,8 +27,10 @@ pub record AreRegions (g : Graph) (r : Regions) : Type 0 where
   pub cursors_size : length r.cursors.places.items ≡ length g
   pub mask : (v : ℕ) → members r.unsettled v ≡ unsettled g (table_state r.table.items) v
 
--- the journal is lawful, and the table and the number are its state and its number settled
+-- the graph is a game within the limits, the journal is lawful, and the table and the number are its state and its number settled
 pub record IsBoard (g : Graph) (journal : Journal) (r : Regions) (number : ℕ) : Type 0 where
+  pub game : IsGame g
+  pub limits : IsWithinLimits g
   pub lawful : IsLawful g journal
   pub regions : AreRegions g r
   pub state : (v : ℕ) → table_state r.table.items v ≡ state_of journal v

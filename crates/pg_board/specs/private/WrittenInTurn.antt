@@ -5,8 +5,7 @@ use Rattle.pg_game.specs.Graph.{Graph}
 use Rattle.pg_game.specs.VertexSet.{members}
 use Rattle.std.specs.Prelude.{Bool, List}
 use Rattle.pg_dominion.specs.Claim.{ClaimRows}
-use Rattle.pg_dominion.specs.private.FreeVertices.{Extends}
-use Rattle.pg_dominion.specs.private.ExtendedRows.{extends_same, extends_then}
+use Rattle.pg_dominion.specs.ExtendedRows.{Extends, extends_same, extends_then}
 use Rattle.pg_board.specs.declared.regions.Regions.{Regions}
 use Rattle.pg_board.specs.private.Regions.{table_state}
 use Rattle.pg_board.specs.private.WrittenRows.{WritesInTurn}

@@ -4,7 +4,7 @@ use Rattle.pg_game.specs.declared.player.Player.{Player}
 use Rattle.pg_game.specs.Graph.{Graph}
 use Rattle.pg_game.specs.VertexSet.{VertexSet, In, members, union}
 use Rattle.pg_dominion.specs.Claim.{ClaimRows, named}
-use Rattle.pg_dominion.specs.private.FreeVertices.{Extends}
+use Rattle.pg_dominion.specs.ExtendedRows.{Extends}
 use Rattle.pg_board.specs.declared.regions.Regions.{Regions}
 use Rattle.pg_board.specs.State.{State}
 use Rattle.pg_board.specs.private.Regions.{table_state, state_with, AreRegions}

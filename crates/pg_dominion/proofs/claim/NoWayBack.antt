@@ -3,7 +3,7 @@ use Rattle.pg_dominion.proofs.Common.{rules, ◌≡◌, ◌≢◌, ℕ, suc, ◌
 use Rattle.pg_dominion.proofs.Common.{subst, arith, Option, None, ◌==◌, Contains, list_any, eqb-true, cases_Bool, Contains-append_left, Player, Graph}
 use Rattle.pg_dominion.proofs.Common.{priority_of, In, KeptEdge, kept, Walk, greatest_priority, OnBadWalk, NoneHas, IsLeast, is_same, ClaimRows, named}
 use Rattle.pg_dominion.proofs.Common.{choice_in, is_bad, IsRightRow, AllByRecursion, LeadsToListed, AreNamed, or_parts, Bool, same_player, owner_of}
-use Rattle.pg_dominion.specs.private.Shape.{ends_at}
+use Rattle.pg_dominion.proofs.Common.{ends_at}
 use Rattle.std.specs.Prelude.{MatchOption, slice_index}
 use Rattle.std.proofs.lemmas.List.{append_assoc}
 use Rattle.pg_dominion.proofs.AgreeingRows.{other_is}

@@ -4,8 +4,9 @@ use Rattle.pg_finders.proofs.Common.{refl, sym, ◌∙◌, subst, arith, rules, 
 use Rattle.pg_finders.proofs.Common.{take-append-drop, In, members, or_parts, listed, Once, Apart, size}
 use Rattle.std.proofs.lemmas.List.{get_or-set_other}
 use Rattle.std.proofs.lemmas.List.Folds.{list_any-append}
-use Rattle.pg_finders.proofs.Sets.{no_both}
-use Rattle.pg_finders.proofs.Sizes.{size_drop}
+use Rattle.pg_finders.proofs.Sets.{no_both, only}
+use Rattle.pg_finders.proofs.Sizes.{size_drop, some_member}
+use Rattle.pg_finders.proofs.Masks.{members-unset}
 
 pub listed-append : (xs ys : List ℕ) (v : ℕ) → listed (xs ++ ys) v ≡ (listed xs v || listed ys v)
 listed-append xs ys v = list_any-append (λ u. u == v) xs ys
@@ -88,6 +89,21 @@ once_fits (x ∷ xs) mask o f =
         → members (slice_set mask x false) v ≡ true
     kept v i true e f = absurd (let q = eqb-true x v e in let m : listed xs x ≡ true = subst (λ u. listed xs u ≡ true) (sym q) i in no_both m o.0)
     kept v i false e f = get_or-set_other mask x v false false (λ q. grind (arith, eq-eqb x v (sym q))) ∙ f (rw (e, i) refl)
+
+-- of a mask that has more vertices than the list, one is not listed
+pub missing : (xs : List ℕ) (mask : List Bool) → length xs < size mask → (v : ℕ) × (members mask v ≡ true) × (listed xs v ≡ false)
+missing [] mask l = let h = some_member mask (omega (arith, l)) in (h.0, h.1, refl)
+missing (x ∷ xs) mask l = go (members mask x) refl (missing xs)
+  where
+    go : (b : Bool) → members mask x ≡ b → ((m : List Bool) → length xs < size m → (v : ℕ) × (members m v ≡ true) × (listed xs v ≡ false))
+        → (v : ℕ) × (members mask v ≡ true) × (listed (x ∷ xs) v ≡ false)
+    go true e more =
+        let h = more (slice_set mask x false) (omega (arith, l, size_drop mask x e)) in
+        let o = only (members mask h.0) (x == h.0) (sym (members-unset mask x h.0) ∙ h.1) in
+        (h.0, o.0, rw (o.1, h.2) refl)
+    go false e more =
+        let h = more mask (omega (arith, l)) in
+        (h.0, h.1, rw (false_from_ne_true (x == h.0) (λ q. no_both h.1 (subst (λ u. members mask u ≡ false) (eqb-true x h.0 q) e)), h.2) refl)
 
 pub listed_get : (xs : List ℕ) (k d : ℕ) → k < length xs → listed xs (get_or xs k d) ≡ true
 listed_get [] k d l = absurd (omega (arith, l))

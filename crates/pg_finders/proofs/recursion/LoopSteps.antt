@@ -1,16 +1,16 @@
 -- The steps of the loop over shared lists: a subgame is begun, or the last one that waits is finished.
-use Rattle.pg_finders.proofs.Common.{◌≡◌, ℕ, ◌+◌, ◌-◌, ◌<◌, ◌≤◌, Bool, true, false, ◌&&◌, ◌||◌, not, ◌⊎◌, inl, inr, List, [], ◌∷◌, ◌++◌, length, take, drop, map}
+use Rattle.pg_finders.proofs.Common.{◌≡◌, ◌≢◌, ℕ, ◌+◌, ◌-◌, ◌<◌, ◌≤◌, Bool, true, false, ◌&&◌, ◌||◌, not, ◌⊎◌, inl, inr, List, [], ◌∷◌, ◌++◌, length, take, drop, map}
 use Rattle.pg_finders.proofs.Common.{refl, sym, ◌∙◌, ap, subst, arith, length-append, rules, fun_ext, ◌==◌, eqb-true, or_cases, and_parts, and_from}
-use Rattle.pg_finders.proofs.Common.{false_from_ne_true, and-true, map-append, take-append-le, take_all, common_steps, Player, Even, Odd, opponent, Graph}
+use Rattle.pg_finders.proofs.Common.{false_from_ne_true, cases_lt, and-true, map-append, take-append-le, take_all, common_steps, Player, Even, Odd, opponent, Graph}
 use Rattle.pg_finders.proofs.Common.{VertexSet, In, members, no_vertices, Choices, same_is, is_same, Frame, Winners, IsSolvedInside, IsSolvedTo, IsBegun}
 use Rattle.pg_finders.proofs.Common.{won_inside, Level, AreLevels, listed, Once, Apart, SettledLists, size, gone, part, count_at, prefix, level_at, Linked}
 use Rattle.pg_finders.proofs.Common.{AreApart, AreOpenLevels, how_many_gone}
 use Rattle.std.proofs.Common.{length-take}
 use Rattle.std.proofs.Math.Bool.{or_assoc}
 use Rattle.std.proofs.Math.Seq.{take-append-add, drop-append_seam}
-use Rattle.pg_finders.proofs.Sets.{minus_both, no_both, equal_from, unless}
+use Rattle.pg_finders.proofs.Sets.{minus, minus_both, no_both, equal_from, unless}
 use Rattle.pg_finders.proofs.recursion.ListsAsSets.{listed-append, prefix_or_rest, in_take, in_drop, take_or_drop, once_join, once_take, take_apart, apart_from}
-use Rattle.pg_finders.proofs.recursion.ListsAsSets.{once_fits}
+use Rattle.pg_finders.proofs.recursion.ListsAsSets.{once_fits, missing}
 use Rattle.pg_finders.proofs.SolvedSubgames.{solved_none, solved_whole, IsSolvedTo-subst}
 use Rattle.pg_finders.proofs.recursion.WaitingLevels.{Agree, waits_on, waits_push, waits_pop}
 use Rattle.pg_finders.proofs.recursion.SharedLists.{pick, picked, pick_apart, pick_either, gone_settled, gone_aside}
@@ -23,8 +23,9 @@ all_gone settled set_aside = (settled Even ++ settled Odd) ++ set_aside
 all_gone_once : (settled : SettledLists) (set_aside : List ℕ) → AreApart settled set_aside → Once (all_gone settled set_aside)
 all_gone_once settled set_aside a = search (rules, once_join, a.settled_once, a.players, a.aside_once, prefix_or_rest, a.aside_apart)
 
-all_gone_are : (settled : SettledLists) (set_aside : List ℕ) (v : ℕ) → In (listed (all_gone settled set_aside)) v → In (gone settled set_aside) v
-all_gone_are settled set_aside v i = search (rules, prefix_or_rest, gone_settled, gone_aside)
+all_gone_is : (settled : SettledLists) (set_aside : List ℕ) (v : ℕ) → listed (all_gone settled set_aside) v ≡ gone settled set_aside v
+all_gone_is settled set_aside v = listed-append (settled Even ++ settled Odd) set_aside v
+    ∙ ap (λ b. b || listed set_aside v) (listed-append (settled Even) (settled Odd) v)
 
 all_gone_length : (settled : SettledLists) (set_aside : List ℕ) → length (all_gone settled set_aside) ≡ how_many_gone settled set_aside
 all_gone_length settled set_aside = omega (arith, length-append (settled Even ++ settled Odd) set_aside, length-append (settled Even) (settled Odd))
@@ -33,7 +34,7 @@ all_gone_length settled set_aside = omega (arith, length-append (settled Even ++
 pub lists_fit : {settled : SettledLists} {set_aside : List ℕ} (mask : List Bool) → AreApart settled set_aside
     → ((v : ℕ) → In (gone settled set_aside) v → In (members mask) v) → how_many_gone settled set_aside ≤ size mask
 lists_fit {settled} {set_aside} mask a inside =
-    let h = once_fits (all_gone settled set_aside) mask (all_gone_once settled set_aside a) (λ v i. inside v (all_gone_are settled set_aside v i)) in
+    let h = once_fits (all_gone settled set_aside) mask (all_gone_once settled set_aside a) (λ v i. inside v (sym (all_gone_is settled set_aside v) ∙ i)) in
     omega (arith, h, all_gone_length settled set_aside)
 
 -- where the lists are that long, nothing is active
@@ -41,14 +42,25 @@ pub none_active : {g : Graph} (mask : List Bool) {active : VertexSet} {settled :
     {s : Choices} → AreOpenLevels g (members mask) active settled set_aside frames won s → how_many_gone settled set_aside ≡ size mask → (v : ℕ) → active v ≡ false
 none_active mask {active} {settled} {set_aside} h e v = false_from_ne_true (active v) (λ i.
     (let c = part_of (members mask) settled set_aside v (sym (h.active_is v) ∙ i) in
-    let fresh : listed (all_gone settled set_aside) v ≡ false = listed-append (settled Even ++ settled Odd) set_aside v
-    ∙ (ap (λ b. b || listed set_aside v) (listed-append (settled Even) (settled Odd) v) ∙ gone_none settled set_aside v c.1 c.2) in
+    let fresh : listed (all_gone settled set_aside) v ≡ false = all_gone_is settled set_aside v ∙ gone_none settled set_aside v c.1 c.2 in
     let fits = once_fits (v ∷ all_gone settled set_aside) mask (fresh, all_gone_once settled set_aside h.apart)
     (λ w m. elim (or_cases (v == w) (listed (all_gone settled set_aside) w) m) [
       | inl y ↦ subst (In (members mask)) (eqb-true v w y) c.0
-      | inr y ↦ h.listed_inside w (all_gone_are settled set_aside w y)
+      | inr y ↦ h.listed_inside w (sym (all_gone_is settled set_aside w) ∙ y)
     ]) in
     omega (arith, fits, e, all_gone_length settled set_aside)))
+
+-- and where they are shorter, a vertex is
+pub some_active : {g : Graph} (mask : List Bool) {active : VertexSet} {settled : SettledLists} {set_aside : List ℕ} {frames : List Frame} {won : Winners}
+    {s : Choices} → AreOpenLevels g (members mask) active settled set_aside frames won s → how_many_gone settled set_aside ≢ size mask → (v : ℕ) × In active v
+some_active mask {settled = settled} {set_aside = set_aside} h n =
+    let fits = lists_fit mask h.apart h.listed_inside in
+    elim (cases_lt (how_many_gone settled set_aside) (size mask)) [
+      | inl l ↦ (
+          let m = missing (all_gone settled set_aside) mask (omega (arith, l, all_gone_length settled set_aside)) in
+          (m.0, h.active_is m.0 ∙ minus m.1 (sym (all_gone_is settled set_aside m.0) ∙ m.2)))
+      | inr l ↦ absurd (n (omega (arith, l, fits)))
+    ]
 
 -- The active part is begun: the vertices that are added to those set aside are its attractor, and the others stay active.
 pub record Begins (g : Graph) (U active active' : VertexSet) (settled : SettledLists) (set_aside added : List ℕ) (frames : List Frame) (f : Frame)

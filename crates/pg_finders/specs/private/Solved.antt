@@ -3,8 +3,7 @@ use Rattle.std.specs.Prelude.{ℕ, ◌≡◌, ◌<◌, ◌≤◌, ◌&&◌, fals
 use Rattle.pg_game.specs.declared.player.Player.{Player}
 use Rattle.pg_game.specs.Player.{opponent, same_player, of_parity}
 use Rattle.pg_game.specs.Graph.{Graph, HasEdge, owner_of, priority_of}
-use Rattle.pg_game.specs.VertexSet.{VertexSet, In, Within}
-use Rattle.pg_game.specs.private.VertexSet.{without}
+use Rattle.pg_game.specs.VertexSet.{VertexSet, In, Within, without}
 use Rattle.pg_game.specs.Subgame.{IsSubgame}
 use Rattle.pg_game.specs.Kept.{Choices}
 use Rattle.pg_game.specs.Region.{OnlyGoodWalks}

@@ -6,8 +6,7 @@ ghost use Rattle.std.specs.Prelude.{◌≡◌, ◌==◌, ◌<◌, ◌≤◌, ◌
 ghost use Rattle.std.specs.List.{filter};
 ghost use Rattle.pg_game.specs.Graph.{HasEdge, owner_of};
 ghost use Rattle.pg_game.specs.Player.{opponent};
-ghost use Rattle.pg_game.specs.VertexSet.{In, members, union};
-ghost use Rattle.pg_game.specs.private.VertexSet.{without};
+ghost use Rattle.pg_game.specs.VertexSet.{In, members, union, without};
 ghost use Rattle.pg_finders.specs.Part.{IsOut};
 ghost use Rattle.pg_finders.specs.private.recursion.Listed.{listed, Once};
 ghost use Rattle.pg_finders.specs.private.recursion.Settled.{settled_of};

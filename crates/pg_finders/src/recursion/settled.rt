@@ -49,7 +49,7 @@ impl Settled {
         self.list(player).len()
     }
 
-    /// Whether the vertex is in the player's list, at the place `from` or behind it.
+    /// Whether the vertex is in the player's list, from the place `from` on.
     pub fn has_from(&self, player: Player, from: usize, v: u32) -> bool
         requires { v < length self.now.places.items }
         ensures stands { result ≡ stands self.now.places.items (settled_of self.now player) from v }

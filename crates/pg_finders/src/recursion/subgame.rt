@@ -8,8 +8,7 @@
 ghost use Rattle.std.specs.Prelude.{◌≡◌, ◌<◌, ℕ, [], length, take, All, IfOk, OnOk, ◌≢◌, Some};
 ghost use Rattle.pg_game.specs.Graph.{HasEdge};
 ghost use Rattle.pg_game.specs.Player.{of_parity};
-ghost use Rattle.pg_game.specs.VertexSet.{In, Within, all_vertices, members, union};
-ghost use Rattle.pg_game.specs.private.VertexSet.{without};
+ghost use Rattle.pg_game.specs.VertexSet.{In, Within, all_vertices, members, union, without};
 ghost use Rattle.pg_game.specs.Subgame.{IsSubgame};
 ghost use Rattle.pg_finders.specs.private.recursion.Listed.{listed};
 ghost use Rattle.pg_dominion.specs.AttractorState.{AttractsNoFurther};

@@ -6,8 +6,8 @@ ghost use Rattle.std.specs.Prelude.{◌≡◌, ◌≢◌, ℕ, ◌≤◌, ◌<�
 ghost use Rattle.std.specs.Prelude.{IfSome, IsNone};
 ghost use Rattle.pg_dominion.specs.Claim.{named, choice_in};
 ghost use Rattle.pg_finders.specs.private.small.Partial.{no_row, vertex_in, choice_at, AreFew};
+ghost use Rattle.pg_finders.specs.private.small.Search.{search_in};
 ghost use Rattle.pg_finders.specs.private.small.Excluded.{IsBetween, NoneHasBetween};
-ghost use Rattle.pg_game.specs.VertexSet.{members};
 ghost use Rattle.pg_game.specs.Region.{OnlyGoodWalks};
 ghost use Rattle.pg_finders.specs.private.small.Walked.{RowLeadsTo, IsReachedNext, IsReached, WalksBack};
 
@@ -202,43 +202,24 @@ pub struct DominionSearch<'a> {
     pub excluded: Excluded,
     ghost sizes: { length mask.now ≡ length game.now },
     ghost few: { bound ≤ 8 },
-    ghost none: { NoneHasBetween game.now (members mask.now) player bound excluded.low excluded.high },
-}
-
-impl<'a> DominionSearch<'a> {
-    /// Whether one more row closes no walk that is bad for the player.
-    pub fn stays_good(&self, chosen: &Chosen, at: usize) -> bool
-        requires rows { AreFew self.now.game.now chosen.now }
-        requires at { at < length chosen.now }
-        requires before { OnlyGoodWalks self.now.game.now self.now.player (named (take at chosen.now)) (choice_in chosen.now) }
-        ensures good { IsTrue result → OnlyGoodWalks self.now.game.now self.now.player (named (take (at + 1) chosen.now)) (choice_in chosen.now) }
-        ensures bad { IsFalse result → OnlyGoodWalks self.now.game.now self.now.player (named (take (at + 1) chosen.now)) (choice_in chosen.now) → ⊥ }
-    {
-        let rows = FirstRows {
-            game: self.game,
-            player: self.player,
-            chosen,
-            done: at + 1,
-        };
-        !rows.closes(at) || rows.is_good()
-    }
+    ghost none: { NoneHasBetween (search_in game.now mask.now player bound) excluded.low excluded.high },
 }
 
 /// The first rows of an unfinished claim, and the edges that their vertices keep.
 #[derive(Clone, Copy)]
-struct FirstRows<'a> {
-    game: &'a Game,
-    player: Player,
-    chosen: &'a Chosen,
+pub struct FirstRows<'a> {
+    pub game: &'a Game,
+    pub player: Player,
+    pub chosen: &'a Chosen,
     /// The number of rows.
-    done: usize,
+    pub done: usize,
     ghost few: { AreFew game.now chosen.now },
     ghost within: { done ≤ length chosen.now },
 }
 
 impl<'a> FirstRows<'a> {
     /// Whether a kept edge of the row leads to itself or an earlier one.
-    fn closes(&self, at: usize) -> bool
+    pub fn closes(&self, at: usize) -> bool
         requires { at < length self.now.chosen.now }
         ensures none { IsFalse result → (to : ℕ) → to ≤ at → RowLeadsTo self.now.game.now self.now.player self.now.chosen.now at to → ⊥ }
     {
@@ -258,7 +239,7 @@ impl<'a> FirstRows<'a> {
     }
 
     /// Whether the kept edges of the first rows make only closed walks that are good for the player.
-    fn is_good(&self) -> bool
+    pub fn is_good(&self) -> bool
         ensures good { IsTrue result → OnlyGoodWalks self.now.game.now self.now.player (named (take self.now.done self.now.chosen.now))
             (choice_in self.now.chosen.now) }
         ensures bad { IsFalse result → OnlyGoodWalks self.now.game.now self.now.player (named (take self.now.done self.now.chosen.now))

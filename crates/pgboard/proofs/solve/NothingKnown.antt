@@ -2,10 +2,11 @@
 use Rattle.pgboard.proofs.Common.{fun_ext, ◌≡◌, ℕ, zero, suc, ◌<◌, ◌≤◌, false, true, ◌⊎◌, inl, inr, [], ◌∷◌, length, refl, sym, subst, arith, Some, None, Even}
 use Rattle.pgboard.proofs.Common.{replicate, slice_get, cases_lt, cases_Bool, Player, Odd, Graph, IsGame, VertexSet, all_vertices, Attractor, IsRegion, Refusal}
 use Rattle.pgboard.proofs.Common.{Contains-head, KnownRows, known_at, known_of, known_choice, own_choices, rows_below, known_rows, IsKnownRegion, HasCount}
-use Rattle.pgboard.proofs.Common.{List, Contains, IsAttractedToKnown, IsKnownSize, IsSolveFault, RunFault}
+use Rattle.pgboard.proofs.Common.{List, Contains, IsAttractedToKnown, IsKnownSize, IsSolveFault, RunFault, State}
 use Rattle.std.proofs.Common.{◌↔◌}
 use Rattle.pg_board.proofs.OpeningState.{no_region, attracts_none}
 use Rattle.pg_workers.proofs.KnownSets.{unknown_beyond}
+use Rattle.pg_workers.specs.KnownRegions.{KeepsKnown}
 use Rattle.pg_workers.specs.declared.known.SolveFault.TheVariants as solving
 use Rattle.pgboard.specs.declared.fault.RunFault.TheVariants as fault
 use Rattle.pgboard.specs.private.Refused.{IsUnsolved}
@@ -48,6 +49,10 @@ no_size P n none count = go count.numbers count.all count.size
     go : (vs : List ℕ) → ((v : ℕ) → Contains vs v ↔ P v) → length vs ≡ n → n ≡ 0
     go [] all size = sym size
     go (v ∷ vs) all size = absurd (none v ((all v).0 (Contains-head v vs)))
+
+-- rows that say nothing keep nothing
+pub nothing_kept : (g : Graph) (n : ℕ) (st : State) → KeepsKnown g (replicate n None) st
+nothing_kept g n st p v i = absurd (let h = rw (nothing_at n v) at i in cc h)
 
 -- rows that say nothing are regions, as no rows are
 pub nothing_regions : (g : Graph) → IsGame g → (p : Player) → IsKnownRegion g (replicate (length g) None) p

@@ -1,7 +1,16 @@
-use Rattle.pg_dominion.proofs.Common.{ℕ, length, subst, ltb-true, Graph, NoneHas, IsLeast, edge_inside, Leaves, IsOnBadCycle}
+use Rattle.pg_dominion.proofs.Common.{◌≡◌, ◌↔◌, ℕ, length, sym, ◌∙◌, ap, subst, StrategyGraph, ltb-true, Graph, NoneHas, IsLeast, edge_inside, Leaves, IsOnBadCycle}
 use Rattle.pg_text.specs.Verdict.{IsFirstLeaving}
 use Rattle.pg_text.proofs.Verdict.{solution_from_no_fault}
+use Rattle.pg_text.specs.Solution.{SolutionRows}
+use Rattle.pg_text.specs.Verdict.{IsOnBadWalk}
+use Rattle.pg_dominion.specs.private.JointStrategy.{IsJointStrategy}
+use Rattle.pg_dominion.proofs.solution.KeptEdges.{bad_cycle_is_on_bad_walk}
 use Rattle.pg_dominion.proofs.solution.check_forward_solution.Goals as goal
+
+bad_as_in_game : (k : StrategyGraph) (g : Graph) (rows : SolutionRows) → length rows ≡ length g → k.game.now ≡ g → IsJointStrategy k rows
+    → ((v w : ℕ) → Leaves k.game.now rows v w → ⊥) → (v : ℕ) → IsOnBadCycle k v ↔ IsOnBadWalk g rows v
+bad_as_in_game k g rows size same joint leaves = subst (λ (x : Graph). (v : ℕ) → IsOnBadCycle k v ↔ IsOnBadWalk x rows v) same
+    (bad_cycle_is_on_bad_walk k rows (size ∙ sym (ap (λ (x : Graph). length x) same)) joint leaves)
 
 pub returns-in-Some-2-clause-fails : goal.returns-in-Some-2-clause-fails
 returns-in-Some-2-clause-fails c =
@@ -9,7 +18,7 @@ returns-in-Some-2-clause-fails c =
     let k = c.in_ok-kept.kept in
     let leaves = subst (λ (g : Graph). (u w : ℕ) → Leaves g rows u w → ⊥) c.in_ok-kept.ensures.game c.in_default-first_leaving.ensures.first in
     let h : IsLeast (IsOnBadCycle k) c.in-Some-2.v = rw c.in-Some-2.is at c.in_ok-v.ensures in
-    let same = c.in_ok-kept.ensures.bad_cycle leaves in (
+    let same = bad_as_in_game k c.args.game.now rows c.requires c.in_ok-kept.ensures.game c.in_ok-kept.ensures.joint c.in_default-first_leaving.ensures.first in (
       c.in-Some-2.v,
       c.id-in-Some-2.ensures,
       record {
@@ -26,7 +35,8 @@ returns-clause-holds c =
     let rows = c.args.solution.now.rows in
     let leaves = subst (λ (g : Graph). (u w : ℕ) → Leaves g rows u w → ⊥) c.in_ok-kept.ensures.game c.in_default-first_leaving.ensures.first in
     let none : NoneHas (IsOnBadCycle c.in_ok-kept.kept) = rw c.in_default-2.is at c.in_ok-v.ensures in
-    let same = c.in_ok-kept.ensures.bad_cycle leaves in
+    let same = bad_as_in_game c.in_ok-kept.kept g rows c.requires c.in_ok-kept.ensures.game c.in_ok-kept.ensures.joint
+    c.in_default-first_leaving.ensures.first in
     solution_from_no_fault g rows c.requires (λ v w l e. ltb-true w (length g) (edge_inside g c.len-n.ensures.game v w l e))
     c.in_default.ensures c.in_default-first_bad_choice.ensures leaves (λ v b. none v ((same v).1 b))
 

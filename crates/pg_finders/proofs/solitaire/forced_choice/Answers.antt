@@ -1,6 +1,9 @@
-use Rattle.pg_finders.proofs.Common.{rules}
+use Rattle.pg_finders.proofs.Common.{members}
+use Rattle.pg_finders.proofs.solitaire.ForcedPlayer.{some_single}
 use Rattle.pg_finders.proofs.solitaire.forced_choice.Goals as goal
 
-pub returns-in-None : goal.returns-in-None
-returns-in-None c = λ i o. absurd (c.args.solitaire.now.view.no_dead_end c.args.v
-    (i, c.in-None.ensures.none (search rules) (λ w x a b d e. c.args.solitaire.now.one c.args.v w x i o a b d e)))
+pub returns-then-eq-clause-own : goal.returns-then-eq-clause-own
+returns-then-eq-clause-own c = λ o.
+    let s = c.args.solitaire.now in
+    some_single s.view.game.now (members s.view.mask.now) c.args.v _ c.single_successor.ensures.found
+    (λ n. s.view.no_dead_end c.args.v (c.requires.inside, c.single_successor.ensures.none n (λ w x a b d e. s.one c.args.v w x c.requires.inside o a b d e)))

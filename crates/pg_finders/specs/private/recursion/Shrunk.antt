@@ -4,8 +4,7 @@ use Rattle.pg_game.specs.declared.player.Player.{Player}
 use Rattle.pg_game.specs.declared.player.Player.TheVariants.{Even, Odd}
 use Rattle.pg_game.specs.Player.{opponent}
 use Rattle.pg_game.specs.Graph.{Graph, HasEdge, owner_of}
-use Rattle.pg_game.specs.VertexSet.{VertexSet, In, Within, union}
-use Rattle.pg_game.specs.private.VertexSet.{without}
+use Rattle.pg_game.specs.VertexSet.{VertexSet, In, Within, union, without}
 use Rattle.pg_finders.specs.declared.recursion.Frame.{Frame}
 use Rattle.pg_finders.specs.declared.recursion.Solver.{Solver}
 use Rattle.pg_finders.specs.declared.recursion.parts.Parts.{Parts}

@@ -7,7 +7,7 @@ use Rattle.pg_game.specs.Subgame.{IsSubgame}
 use Rattle.pg_finders.specs.declared.recursion.Frame.{Frame}
 use Rattle.pg_finders.specs.declared.recursion.Solver.{Solver}
 use Rattle.pg_finders.specs.private.recursion.Plans.{winners_of, choices_of}
-use Rattle.pg_finders.specs.Steps.{size}
+use Rattle.pg_finders.specs.Steps.{size, work}
 use Rattle.pg_finders.specs.private.recursion.Settled.{SettledLists, settled_of, IsPlaced}
 use Rattle.pg_finders.specs.private.recursion.Order.{IsOrder}
 use Rattle.pg_finders.specs.private.recursion.TakenVertices.{active_of, HasSizes}
@@ -42,3 +42,9 @@ AreFewer (Some n) left = IfSome left (λ m. m ≤ n) × IsSome left
 abbrev pub number_left : Option ℕ → ℕ
 number_left None = 0
 number_left (Some n) = n
+
+-- one more step was needed than were left: all of these are taken, and the solver is still under way
+pub record HasStopped (g : Graph) (inside : List Bool) (left left' : Option ℕ) (x x' : Solver) : Type 0 where
+  pub running : IsSolverState g inside x' x'.frames.items
+  pub none_left : left' ≡ Some 0
+  pub spent : work (size inside) x' x'.frames.items + number_left left ≤ work (size inside) x x.frames.items

@@ -3,8 +3,7 @@ use Rattle.std.specs.Prelude.{ℕ, suc, ◌≡◌, ◌≢◌, ◌<◌, ◌==◌,
 use Rattle.pg_game.specs.declared.player.Player.{Player}
 use Rattle.pg_game.specs.Player.{opponent}
 use Rattle.pg_game.specs.Graph.{Graph, HasEdge, owner_of}
-use Rattle.pg_game.specs.VertexSet.{VertexSet, In, members, union}
-use Rattle.pg_game.specs.private.VertexSet.{without}
+use Rattle.pg_game.specs.VertexSet.{VertexSet, In, members, union, without}
 use Rattle.pg_finders.specs.declared.recursion.subgame.Subgame.{Subgame}
 use Rattle.pg_finders.specs.declared.recursion.subgame.Plan.{Plan}
 use Rattle.pg_finders.specs.private.recursion.Listed.{listed, Once}

@@ -1,11 +1,11 @@
 -- The results of the steps of a small search.
-use Rattle.std.specs.Prelude.{ℕ, ◌≡◌, ◌≤◌, ◌<◌, ◌+◌, false, length, Some}
-use Rattle.pg_game.specs.declared.player.Player.{Player}
-use Rattle.pg_game.specs.Graph.{Graph, HasEdge, owner_of}
-use Rattle.pg_game.specs.VertexSet.{VertexSet, In, Within}
-use Rattle.pg_dominion.specs.Claim.{ClaimRows, named, choice_in, IsGoodIn}
+use Rattle.std.specs.Prelude.{ℕ, ◌≡◌, ◌<◌, ◌+◌, false, length, Some}
+use Rattle.pg_game.specs.Graph.{HasEdge, owner_of}
+use Rattle.pg_game.specs.VertexSet.{In, Within}
+use Rattle.pg_dominion.specs.Claim.{ClaimRows, named, choice_in}
 use Rattle.pg_finders.specs.declared.small.Step.{Step}
 use Rattle.pg_finders.specs.declared.small.Step.TheVariants.{Found, Nothing, GaveUp}
+use Rattle.pg_finders.specs.private.small.Search.{Search, IsSmallClaim}
 use Rattle.pg_finders.specs.private.small.Partial.{vertex_in, IsPartial, ExtendsChoices}
 
 abbrev pub IfFound : Step → Type 0 → Type 0
@@ -24,32 +24,32 @@ IfGaveUp Nothing P = Unit {0}
 IfGaveUp GaveUp P = P
 
 -- at the row of this place the player chooses
-abbrev pub Chooses : Graph → Player → ClaimRows → ℕ → Type 0
-Chooses g p rows at = (at < length rows) × (owner_of g (vertex_in rows at) ≡ p)
+abbrev pub Chooses : Search → ClaimRows → ℕ → Type 0
+Chooses s rows at = (at < length rows) × (owner_of s.graph (vertex_in rows at) ≡ s.player)
 
 -- one more row is decided, and all vertices are still there
-pub record IsNextPartial (g : Graph) (U : VertexSet) (p : Player) (bound : ℕ) (rows : ClaimRows) (at : ℕ) (next : ClaimRows) : Type 0 where
-  pub partial : IsPartial g U p bound next (at + 1)
+pub record IsNextPartial (s : Search) (rows : ClaimRows) (at : ℕ) (next : ClaimRows) : Type 0 where
+  pub partial : IsPartial s next (at + 1)
   pub keeps : Within (named rows) (named next)
 
--- a good claim that agrees with the rows agrees with the next ones
-abbrev pub StillAgrees : Graph → VertexSet → Player → ClaimRows → ℕ → ClaimRows → Type 0
-StillAgrees g U p rows at next = (claim : ClaimRows) → IsGoodIn g U p claim → ExtendsChoices g p claim rows at → ExtendsChoices g p claim next (at + 1)
+-- a claim that the search looks for and that agrees with the rows agrees with the next ones
+abbrev pub StillAgrees : Search → ClaimRows → ℕ → ClaimRows → Type 0
+StillAgrees s rows at next = (claim : ClaimRows) → IsSmallClaim s claim → ExtendsChoices s claim rows at → ExtendsChoices s claim next (at + 1)
 
--- the same, where it chooses w at v
-abbrev pub StillAgreesAt : Graph → VertexSet → Player → ClaimRows → ℕ → ℕ → ℕ → ClaimRows → Type 0
-StillAgreesAt g U p rows at v w next =
-    (claim : ClaimRows) → IsGoodIn g U p claim → choice_in claim v ≡ Some w → ExtendsChoices g p claim rows at → ExtendsChoices g p claim next (at + 1)
+-- the same, where it chooses w at the row
+abbrev pub StillAgreesAt : Search → ClaimRows → ℕ → ℕ → ClaimRows → Type 0
+StillAgreesAt s rows at w next = (claim : ClaimRows) → IsSmallClaim s claim → choice_in claim (vertex_in rows at) ≡ Some w
+    → ExtendsChoices s claim rows at → ExtendsChoices s claim next (at + 1)
 
--- no good claim of at most this many vertices agrees with the rows and chooses w at v
-abbrev pub NoneAgreesAt : Graph → VertexSet → Player → ℕ → ClaimRows → ℕ → ℕ → ℕ → Type 0
-NoneAgreesAt g U p bound rows at v w =
-    (claim : ClaimRows) → IsGoodIn g U p claim → length claim ≤ bound → choice_in claim v ≡ Some w → ExtendsChoices g p claim rows at → ⊥
+-- no claim that the search looks for agrees with the rows and chooses w at the row
+abbrev pub NoneAgreesAt : Search → ClaimRows → ℕ → ℕ → Type 0
+NoneAgreesAt s rows at w = (claim : ClaimRows) → IsSmallClaim s claim → choice_in claim (vertex_in rows at) ≡ Some w
+    → ExtendsChoices s claim rows at → ⊥
 
 -- the rows are full, and w is not among them
-abbrev pub HasNoCapacity : ClaimRows → ℕ → ℕ → Type 0
-HasNoCapacity rows bound w = (length rows ≡ bound) × (named rows w ≡ false)
+abbrev pub HasNoCapacity : Search → ClaimRows → ℕ → Type 0
+HasNoCapacity s rows w = (length rows ≡ s.bound) × (named rows w ≡ false)
 
--- a successor of v in the set is beyond the bound
-abbrev pub LacksCapacity : Graph → VertexSet → ClaimRows → ℕ → ℕ → Type 0
-LacksCapacity g U rows bound v = (w : ℕ) × HasEdge g v w × In U w × HasNoCapacity rows bound w
+-- a successor of v in the subgame is beyond the bound
+abbrev pub LacksCapacity : Search → ClaimRows → ℕ → Type 0
+LacksCapacity s rows v = (w : ℕ) × HasEdge s.graph v w × In s.inside w × HasNoCapacity s rows w

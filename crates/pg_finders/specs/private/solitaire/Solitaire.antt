@@ -1,10 +1,12 @@
 -- A subgame where one player has no choice: his single successors, and the vertices that lead to a goal.
-use Rattle.std.specs.Prelude.{ℕ, ◌≡◌, ◌≤◌, ◌<◌, ◌&&◌, ◌⊎◌, Bool, false, List, length, slice_index, Option, Some, None}
+use Rattle.std.specs.Prelude.{ℕ, ◌≡◌, ◌≤◌, ◌<◌, ◌&&◌, ◌⊎◌, nat_lt, Bool, false, List, length, slice_index, Option, Some, None}
 use Rattle.pg_game.specs.declared.player.Player.{Player}
-use Rattle.pg_game.specs.Player.{of_parity, same_player}
 use Rattle.pg_game.specs.Graph.{Graph, HasEdge, owner_of, priority_of, successors_of}
 use Rattle.pg_game.specs.VertexSet.{VertexSet, In, members}
 use Rattle.pg_game.specs.Kept.{Choices}
+use Rattle.pg_dominion.specs.declared.strategy_graph.StrategyGraph.{StrategyGraph}
+use Rattle.pg_dominion.specs.KeptEdges.{kept_choice}
+use Rattle.pg_dominion.specs.Strategies.{IsStrategy}
 
 -- the vertex has no two different successors in the set
 abbrev pub HasOneAt : Graph → VertexSet → ℕ → Type 0
@@ -21,13 +23,11 @@ abbrev pub SingleSoFar : Graph → VertexSet → ℕ → ℕ → Option ℕ → 
 SingleSoFar g U v i None = (k : ℕ) → k < i → U (slice_index (successors_of g v) k) ≡ false
 SingleSoFar g U v i (Some x) = HasEdge g v x × In U x × ((k : ℕ) → k < i → In U (slice_index (successors_of g v) k) → slice_index (successors_of g v) k ≡ x)
 
--- the vertices of the set that the player owns
-abbrev pub owned : Graph → VertexSet → Player → VertexSet
-owned g U p v = U v && same_player (owner_of g v) p
-
--- the vertices of the set whose priority has the player's parity
-abbrev pub good_for : Graph → VertexSet → Player → VertexSet
-good_for g U p v = U v && same_player (of_parity (priority_of g v)) p
+-- below n the edges of the set are kept, where the player has his single successors as choices
+pub record IsForcedBelow (g : Graph) (U : VertexSet) (q : Player) (n : ℕ) (k : StrategyGraph) : Type 0 where
+  pub game : k.game.now ≡ g
+  pub strategy : IsStrategy k (λ v. nat_lt v n && U v) (λ v. q) (kept_choice k)
+  pub single : (v : ℕ) → v < n → In U v → owner_of g v ≡ q → (w : ℕ) × (kept_choice k v ≡ Some w) × IsSingle g U v w
 
 -- the choices that a list has by vertex
 abbrev pub choices_by : List ℕ → Choices

@@ -1,6 +1,6 @@
-//! StrategyGraph edges of a game, and the least bad vertex that they have.
+//! The edges of a game as a `StrategyGraph`, and the least bad vertex that they have.
 
-ghost use Rattle.std.specs.Prelude.{◌≡◌, length, vec_len, replicate, false};
+ghost use Rattle.std.specs.Prelude.{◌≡◌, length, replicate, false};
 
 use crate::tests::asserting::made;
 use pg_dominion::{StrategyGraph, least_bad_vertex};
@@ -33,45 +33,32 @@ fn no_vertices(rt: &impl Abort, alloc: Global, game: &Game) -> Mask
     }
 }
 
-/// A mask of all vertices, made once more where memory was refused.
-pub fn all_vertices(rt: &impl Abort, alloc: Global, game: &Game) -> Mask
-    ensures { length result ≡ length game.now }
+/// No kept edges, made once more where memory was refused.
+fn no_edges<'g>(rt: &impl Abort, alloc: Global, game: &'g Game) -> StrategyGraph<'g>
+    ensures { result.game.now ≡ game.now }
 {
-    match Mask::full(alloc, game.len()) {
-        Ok(mask) => mask,
-        Err(_) => Mask::full(alloc, game.len()).expect(rt, "no memory"),
-    }
-}
-
-/// As many choices as vertices, made once more where memory was refused.
-fn no_choices(rt: &impl Abort, alloc: Global, game: &Game) -> Vec<u32>
-    ensures { vec_len result ≡ length game.now }
-{
-    let n = game.len() as usize;
-    match vec![in alloc; 0u32; n] {
-        Ok(choices) => choices,
-        Err(_) => vec![in alloc; 0u32; n].expect(rt, "no memory"),
+    match StrategyGraph::new(alloc, game.forward()) {
+        Ok(kept) => kept,
+        Err(_) => StrategyGraph::new(alloc, game.forward()).expect(rt, "no memory"),
     }
 }
 
 /// All edges of a game, with these bad vertices.
-fn all_edges<'g>(rt: &impl Abort, alloc: Global, game: &'g Game, bad: Mask) -> StrategyGraph<'g>
-    requires { length bad ≡ length game.now }
+fn all_edges<'g>(rt: &impl Abort, alloc: Global, game: &'g Game, bad: &Mask) -> StrategyGraph<'g>
+    requires { length bad.now ≡ length game.now }
 {
-    StrategyGraph {
-        game: game.forward(),
-        inside: all_vertices(rt, alloc, game),
-        chosen: no_vertices(rt, alloc, game),
-        choices: no_choices(rt, alloc, game),
-        bad,
+    let mut kept = no_edges(rt, alloc, game);
+    'vertices: for v in 0..game.len() {
+        kept.keep(v, bad.has(v), None);
     }
+    kept
 }
 
 /// The least bad vertex that is the greatest on a closed walk, where all edges are kept.
 pub fn least_bad(rt: &impl Abort, alloc: Global, game: &Game, bad: Mask) -> Option<u32>
     requires { length bad ≡ length game.now }
 {
-    let kept = all_edges(rt, alloc, game, bad);
+    let kept = all_edges(rt, alloc, game, &bad);
     least_bad_kept(rt, alloc, &kept)
 }
 

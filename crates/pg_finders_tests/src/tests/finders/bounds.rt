@@ -79,7 +79,6 @@ fn a_ladder_of_four_levels_needs_13_steps(rt: HostRuntime) {
     assert_needs(&rt, rt.alloc(), LADDER, 13);
 }
 
-/// A recursion that keeps nothing of what it has won needs 48.
 #[test]
 fn a_game_of_ten_vertices_needs_20_steps(rt: HostRuntime) {
     assert_needs(&rt, rt.alloc(), MANY_STEPS, 20);

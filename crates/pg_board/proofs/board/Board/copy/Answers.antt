@@ -30,5 +30,5 @@ returns c =
       entries = entries;
       number = search (rules, c.self.view_is);
       dominions = λ p rows good. subst (λ (n : ℕ). IsDominionAfter g b.entries.items n p rows) (sym entries)
-          (dominion_now g c.len-n.ensures.game b.entries.items i.lawful p rows (subst (λ (U : VertexSet). IsGoodIn g U p rows) (sym same) good));
+          (dominion_now g i.game b.entries.items i.lawful p rows (subst (λ (U : VertexSet). IsGoodIn g U p rows) (sym same) good));
     })

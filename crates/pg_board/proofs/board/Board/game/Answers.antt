@@ -6,8 +6,8 @@ use Rattle.pg_board.proofs.board.Board.game.Goals as goal
 pub returns-clause-board : goal.returns-clause-board
 returns-clause-board c =
     subst IsLawfulBoard c.self.view_is (record {
-      game = c.len-n.ensures.game;
-      limits = c.len-n.ensures.limits;
+      game = c.self.invariant.game;
+      limits = c.self.invariant.limits;
       lawful = c.self.invariant.lawful;
       within = number_within _ _ c.self.invariant.lawful;
     })

@@ -1,16 +1,15 @@
-use Rattle.pg_board.proofs.Common.{◌≡◌, Err, Result, sym, subst, rules, Claim, IsSound, Posted, Refusal, claim_rows, BoardRecord}
-use Rattle.pg_dominion.specs.Checked.{claim_of, AgreesWithGame, IsForeign}
+use Rattle.pg_board.proofs.Common.{sym, subst, rules, Claim, IsSound, claim_rows, BoardRecord}
+use Rattle.pg_dominion.specs.Checked.{AgreesWithGame, IsForeign}
 use Rattle.pg_dominion.proofs.AgreeingRows.{sound}
-use Rattle.pg_board.specs.Post.{IsPostAnswer, IsSettleAnswer}
-use Rattle.pg_board.proofs.board.OldCopies.{lawful_record, post_answer, refusal_answer, settle_answer}
-use Rattle.pg_board.specs.declared.journal.Refusal.TheVariants as refusal
+use Rattle.pg_board.specs.Post.{IsPostAnswer}
+use Rattle.pg_board.proofs.board.OldCopies.{lawful_record, post_answer, settle_answer}
 use Rattle.pg_board.proofs.board.Board.settle.Goals as goal
 
 pub returns-in-Some : goal.returns-in-Some
 returns-in-Some c =
     let q = c.args.checked.now in
     let x = c.args.self.now in
-    let holds = lawful_record c.self.view_is c.len-n.ensures.game c.self.invariant in
+    let holds = lawful_record c.self.view_is c.self.invariant in
     record {
       foreign = subst (λ (y : BoardRecord). IsForeign y.graph q.player q.rows c.in-Some.v) c.self.view_is c.in-Some.ensures;
       unchanged = search rules;
@@ -22,27 +21,17 @@ settle_sound-requires c =
     let q = c.args.checked.now in
     let b = c.self.inside in
     let here : IsSound b.game.now q.player (claim_rows q.player q.rows) = sound b.game.now q.player q.rows c.claim.ensures.checked c.in_default.ensures in
-    subst (λ (y : BoardRecord). IsSound y.graph c.in_ok-claim.claim.player c.in_ok-claim.claim.rows) c.self.view_is
-    (subst (λ (k : Claim). IsSound b.game.now k.player k.rows) (sym c.in_ok-claim.ensures.claim) here)
-
-pub returns-in_err-claim : goal.returns-in_err-claim
-returns-in_err-claim c =
-    let q = c.args.checked.now in
-    let x = c.args.self.now in
-    let holds = lawful_record c.self.view_is c.len-n.ensures.game c.self.invariant in
-    let agrees = subst (λ (y : BoardRecord). AgreesWithGame y.graph q.player q.rows) c.self.view_is c.in_default.ensures in
-    let e : c.from_residual.result ≡ Err refusal.Memory = search rules in
-    subst (λ (r : Result Posted Refusal). IsSettleAnswer x x c.args.worker q r) (sym e)
-    (record { agrees = agrees; of_state = tt; answer = refusal_answer x c.args.worker (claim_of q) refusal.Memory holds tt })
+    subst (λ (y : BoardRecord). IsSound y.graph c.claim.result.now.player c.claim.result.now.rows) c.self.view_is
+    (subst (λ (k : Claim). IsSound b.game.now k.player k.rows) (sym c.claim.ensures.claim) here)
 
 pub returns : goal.returns
 returns c =
     let q = c.args.checked.now in
     let x = c.args.self.now in
     let s = c.settle_sound in
-    let holds = lawful_record c.self.view_is c.len-n.ensures.game c.self.invariant in
+    let holds = lawful_record c.self.view_is c.self.invariant in
     let agrees = subst (λ (y : BoardRecord). AgreesWithGame y.graph q.player q.rows) c.self.view_is c.in_default.ensures in
-    let answered = post_answer x s.new.self c.args.worker c.in_ok-claim.claim s.result holds
+    let answered = post_answer x s.new.self c.args.worker c.claim.result.now s.result holds
     (record { game = s.ensures.game; posted = s.ensures.posted; refused = s.ensures.refused; unchanged = s.ensures.unchanged }) in
     settle_answer x s.new.self c.args.worker q s.result agrees s.ensures.of_state
-    (subst (λ (k : Claim). IsPostAnswer x s.new.self c.args.worker k s.result) c.in_ok-claim.ensures.claim answered)
+    (subst (λ (k : Claim). IsPostAnswer x s.new.self c.args.worker k s.result) c.claim.ensures.claim answered)

@@ -14,6 +14,6 @@ overflow_add-total c =
     let l : i < length j = subst (λ (xs : List Entry). i < length xs) c.deref-entry-items.ensures.value c.entries-test.true in
     let more = more_settled_by j c.args.worker i e l at in
     let all = number_within b.game.now j c.self.invariant.lawful in
-    let limit = c.len-n.ensures.limits.vertices in
+    let limit = c.self.invariant.limits.vertices in
     let size = ap length c.as_slice.ensures in
     omega (arith, size)

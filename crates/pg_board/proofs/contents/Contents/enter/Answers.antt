@@ -11,7 +11,6 @@ use Rattle.pg_board.proofs.contents.Contents.enter.Goals as goal
 entering : (c : After-len-claimed)
     → IsEntering c.args.game.now c.args.self.now.entries.items c.args.self.now.regions c.args.self.now.number c.args.player c.args.rows.items
 entering c = record {
-  game = c.len-n.ensures.game;
   board = c.requires.board;
   good = c.requires.good;
   twice = c.requires.unsettled;
@@ -59,17 +58,17 @@ attract-requires-clause-subgame c =
 pub overflow_cast-claimed : goal.overflow_cast-claimed
 overflow_cast-claimed c =
     let fits = few (entering (goal.at.overflow_cast-claimed c).After-len-claimed) in
-    omega (arith, fits, c.len-n.ensures.limits.vertices, c.len-claimed.ensures, c.args.rows.ok.0)
+    omega (arith, fits, c.requires.board.limits.vertices, c.len-claimed.ensures, c.args.rows.ok.0)
 
 pub overflow_cast-settled : goal.overflow_cast-settled
 overflow_cast-settled c =
     let at = goal.at.overflow_cast-settled c in let fits = grown_fits (entering at.After-len-claimed) (grown at.After-len-settled) in
-    omega (arith, fits, size_is at.After-len-settled, c.len-n.ensures.limits.vertices, c.len-settled.ensures, c.shrink_to_fit.new.self.ok.0)
+    omega (arith, fits, size_is at.After-len-settled, c.requires.board.limits.vertices, c.len-settled.ensures, c.shrink_to_fit.new.self.ok.0)
 
 pub overflow_add-self : goal.overflow_add-self
 overflow_add-self c =
     let at = goal.at.overflow_add-self c in let fits = grown_fits (entering at.After-len-claimed) (grown at.After-len-settled) in
-    omega (arith, fits, size_is at.After-len-settled, c.len-n.ensures.limits.vertices, c.len-settled.ensures, c.shrink_to_fit.new.self.ok.0)
+    omega (arith, fits, size_is at.After-len-settled, c.requires.board.limits.vertices, c.len-settled.ensures, c.shrink_to_fit.new.self.ok.0)
 
 pub returns-clause-board : goal.returns-clause-board
 returns-clause-board c =
@@ -95,7 +94,7 @@ returns-clause-added c =
 pub overflow_add-is_full : goal.overflow_add-is_full
 overflow_add-is_full c =
     let fits = few (entering (goal.at.overflow_add-is_full c).After-len-claimed) in
-    omega (arith, fits, c.len-n.ensures.limits.vertices, c.len-claimed.ensures, c.args.rows.ok.0)
+    omega (arith, fits, c.requires.board.limits.vertices, c.len-claimed.ensures, c.args.rows.ok.0)
 
 pub attract-requires-clause-full : goal.attract-requires-clause-full
 attract-requires-clause-full c =

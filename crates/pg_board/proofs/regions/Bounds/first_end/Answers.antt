@@ -6,7 +6,7 @@ pub returns-then-not-has : goal.returns-then-not-has
 returns-then-not-has c =
     let b = c.args.self.now in
     let none : c.args.row.1 ≡ None = search rules in
-    first_successor b.game.now c.len-n.ensures.game b.player
+    first_successor b.game.now b.is_game b.player
     (union (named b.rest.now) (settled (table_state b.regions.now.table.items) b.player)) c.args.row c.requires none
     c.successors-w-items.result.now c.successors-w-items.ensures.all c.row.w-index c.row-test.true c.row.invariant
     (sym c.has-in-row.ensures ∙ c.if-not-has.true)
@@ -15,6 +15,6 @@ pub returns : goal.returns
 returns c =
     let b = c.args.self.now in
     let none : c.args.row.1 ≡ None = search rules in
-    no_successor b.game.now c.len-n.ensures.game b.player
+    no_successor b.game.now b.is_game b.player
     (union (named b.rest.now) (settled (table_state b.regions.now.table.items) b.player)) c.args.row c.requires none
     c.successors-w-items.result.now c.successors-w-items.ensures.all c.row.w-index c.row-test.false c.row.invariant

@@ -1,21 +1,26 @@
-use Rattle.pg_board.proofs.Common.{◌∙◌, ap, subst, length, ◌≤◌, IsGame, IsWithinLimits}
+use Rattle.pg_board.proofs.Common.{subst, length, ◌≤◌, Graph, Option, None, Some}
 use Rattle.pg_board.specs.Board.{IsLawfulBoard}
+use Rattle.pg_board.specs.BoardRecord.{journal_of}
+use Rattle.pg_board.specs.declared.contents.Contents.{Contents}
+use Rattle.pg_board.specs.private.Contents.{AreContentsOf}
 use Rattle.pg_board.proofs.Numbers.{number_within}
 use Rattle.pg_board.specs.SessionRecord.{SessionRecord}
 use Rattle.pg_board.specs.Slices.{most_slices}
 use Rattle.pg_board.proofs.Slices.{slices_within}
 use Rattle.pg_board.proofs.session.Session.game.Goals as goal
 
+-- a game and the contents of a board of it
+lawful_board : (g : Graph) (contents : Option Contents) → AreContentsOf g contents → IsLawfulBoard (record { graph = g; journal = journal_of contents })
+lawful_board g None board = absurd board
+lawful_board g (Some c) board = record {
+  game = board.game;
+  limits = board.limits;
+  lawful = board.lawful;
+  within = number_within g c.entries.items board.lawful;
+}
+
 pub returns-clause-board : goal.returns-clause-board
-returns-clause-board c =
-    let contents = c.contents-contents in
-    let graph = c.deref.ensures ∙ ap (λ (x : SessionRecord). x.board.graph) c.self.view_is in
-    subst IsLawfulBoard contents.ensures.same (record {
-      game = subst IsGame graph c.len-n.ensures.game;
-      limits = subst IsWithinLimits graph c.len-n.ensures.limits;
-      lawful = contents.ensures.contents.lawful;
-      within = number_within c.args.self.now.board.graph contents.result.now.entries.items contents.ensures.contents.lawful;
-    })
+returns-clause-board c = subst (λ (x : SessionRecord). IsLawfulBoard x.board) c.self.view_is (lawful_board _ _ c.self.invariant.0)
 
 pub returns-clause-slices : goal.returns-clause-slices
 returns-clause-slices c =

@@ -1,4 +1,4 @@
-use Rattle.pg_dominion.proofs.Common.{sym, subst, ClaimRows, IsSound}
+use Rattle.pg_dominion.proofs.Common.{rules, sym, subst, ClaimRows, IsSound}
 use Rattle.pg_dominion.proofs.CheckedRows.{checked}
 use Rattle.pg_dominion.proofs.checked.Checked.of.Goals as goal
 
@@ -6,4 +6,4 @@ pub invariant_of-result : goal.invariant_of-result
 invariant_of-result c =
     let claim = c.args.claim.now in
     let sound = subst (λ (xs : ClaimRows). IsSound c.args.game.now claim.player xs) (sym c.in_ok-rows.ensures.rows) c.requires in
-    checked c.args.game.now claim.player c.in_ok-rows.rows.items c.in_ok-rows.ensures.agree sound
+    (checked c.args.game.now claim.player c.in_ok-rows.rows.items c.in_ok-rows.ensures.agree sound, search rules)

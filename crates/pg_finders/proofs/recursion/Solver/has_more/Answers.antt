@@ -1,6 +1,6 @@
-use Rattle.pg_finders.proofs.Common.{rules, sym, ◌∙◌, arith}
+use Rattle.pg_finders.proofs.Common.{◌≢◌, rules, sym, ◌∙◌, arith}
 use Rattle.pg_finders.proofs.Sizes.{size_below}
-use Rattle.pg_finders.proofs.recursion.LoopSteps.{lists_fit, none_active}
+use Rattle.pg_finders.proofs.recursion.LoopSteps.{lists_fit, none_active, some_active}
 use Rattle.pg_finders.proofs.recursion.Solver.has_more.Goals as goal
 
 pub gone-requires : goal.gone-requires
@@ -8,6 +8,11 @@ gone-requires c =
     let h = c.requires.open_levels in
     omega (arith, lists_fit c.args.view.now.mask.now h.apart h.listed_inside, size_below c.args.view.now.mask.now, c.requires.inside_length, c.len-n.ensures)
 
-pub returns : goal.returns
-returns c e v =
+pub returns-clause-some : goal.returns-clause-some
+returns-clause-some c e =
+    let n : c.gone.result ≢ c.args.self.now.size = search rules in
+    some_active c.args.view.now.mask.now c.requires.open_levels (λ q. n (c.gone.ensures ∙ (q ∙ sym c.requires.whole)))
+
+pub returns-clause-none : goal.returns-clause-none
+returns-clause-none c e v =
     none_active c.args.view.now.mask.now c.requires.open_levels (sym c.gone.ensures ∙ (search rules ∙ c.requires.whole)) v

@@ -1,4 +1,4 @@
-use Rattle.pg_finders.proofs.Common.{◌≡◌, ◌∙◌, ◌+◌, ◌-◌, ◌≤◌, ◌<◌, ℕ, Option, None, Some, In, ap, subst, refl, members, IfOk, IsNone, VertexSet, List, Bool}
+use Rattle.pg_finders.proofs.Common.{◌≡◌, ◌∙◌, ◌+◌, ◌-◌, ◌≤◌, ◌<◌, ℕ, Option, None, Some, In, ap, subst, refl, members, IfOk, IsNone, VertexSet, List, Bool, sym, AreFewer, false}
 use Rattle.pg_finders.proofs.Common.{size, steps, arith, Frame}
 use Rattle.std.specs.Option.{IsSome}
 use Rattle.std.proofs.lemmas.Result.{IfOk-weaker}
@@ -6,8 +6,9 @@ use Rattle.pg_finders.specs.Steps.{work, gone_from}
 use Rattle.pg_finders.specs.private.recursion.SolverState.{number_left}
 use Rattle.pg_finders.specs.declared.recursion.Solved.{Solved}
 use Rattle.pg_finders.specs.declared.recursion.Solver.{Solver}
+use Rattle.pg_finders.proofs.Sets.{no_both}
 use Rattle.pg_finders.proofs.recursion.WaitingLevels.{steps_grow}
-use Rattle.pg_finders.proofs.recursion.solve.Goals as goal
+use Rattle.pg_finders.proofs.recursion.zielonka_within.Goals as goal
 
 pub returns-clause-no_steps : goal.returns-clause-no_steps
 returns-clause-no_steps c =
@@ -31,6 +32,20 @@ returns-clause-enough c =
     let new = c.solve.new.self in
     let mask = c.view-view.result.mask.now in
     subst (λ (m : List Bool). IfOk c.solve.result (λ found. (k : ℕ) → c.args.limit ≡ Some k → steps (size m) ≤ k → IsSome found)) c.view-view.ensures.mask
-    (IfOk-weaker c.solve.result _ _ (λ found spends k is enough.
-    found_some found c.args.limit _ _ _ k (work_some (size mask) new new.frames.items) c.in_ok-solver.ensures.work spends is enough)
-    c.solve.ensures.spends)
+    (IfOk-weaker c.solve.result _ _ (λ found stopped k is enough.
+    found_some found c.args.limit _ _ _ k (work_some (size mask) new new.frames.items) c.in_ok-solver.ensures.work (λ n. (stopped n).spent) is enough)
+    c.solve.ensures.stopped)
+
+pub returns-clause-nothing : goal.returns-clause-nothing
+returns-clause-nothing c = IfOk-weaker c.solve.result _ _ (λ found stopped none.
+    (let some = c.is_empty.ensures.not_empty c.if-is_empty.false in
+    absurd (no_both some.1 (subst (λ m. members m some.0 ≡ false) (sym c.mask.ensures) (none some.0))))) c.solve.ensures.stopped
+
+-- nor does one without a limit
+found_unlimited : (found : Option Solved) (limit left : Option ℕ) → AreFewer limit left → (IsNone found → left ≡ Some 0) → limit ≡ None → IsSome found
+found_unlimited (Some solved) limit left fewer none_left is = refl
+found_unlimited None limit left fewer none_left is = absurd (let f : left ≡ None = rw is at fewer in cc (sym f ∙ none_left refl))
+
+pub returns-clause-unlimited : goal.returns-clause-unlimited
+returns-clause-unlimited c = IfOk-weaker c.solve.result _ _
+    (λ found stopped is. found_unlimited found c.args.limit c.solve.new.left c.solve.ensures.fewer (λ n. (stopped n).none_left) is) c.solve.ensures.stopped
