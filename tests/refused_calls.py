@@ -229,7 +229,7 @@ class Program(Refusing):
         n, jobs = 65_536, 2_051
         cycle = b"".join(b"%d 0 0 %d;" % (v, (v + 1) % n) for v in range(n))
         many = plain.written_game(random_games.small_dominions(n)).encode()
-        rows = [*itertools.product(("solve", "trace"), ((cycle, 156, 1), (many, 122, 1), (many, 122, 64)))]
+        rows = [*itertools.product(("solve", "trace"), ((cycle, 156, 1), (many, 122, 1), (many, 130, 64)))]
         for command, (game, each, workers) in rows + [
             ("solve --known known.sol", it) for it in ((cycle, 116, 1), (many, 120, 1))
         ]:

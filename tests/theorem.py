@@ -73,15 +73,14 @@ class Proved(unittest.TestCase):
 
     def test_each_row_has_a_wrong_body(self):
         """Or it is a statement without a body. Each edit of the libraries is on the page of contracts."""
-        parts = re.split(r"(?m)^### ", common.text_of("docs/CONTRACTS.md"))
-        turned = {part.split("\n")[0]: (re.findall(r"`(\w+\.edit)`", part), "- Wrong" in part) for part in parts}
+        turned = {name.strip("`"): bodies for name, *_, bodies in rows_of(common.text_of("docs/CONTRACTS.md"), 4)}
         for promise, calls in self.ROWS:
             with self.subTest(promise):
                 names = [it.split("`")[1] for it in calls.split(", ")]
                 laws = all(self.CALLS[it][0].endswith("laws.rt") for it in names)
-                self.assertTrue(laws or any(turned[it][1] for it in names))
+                self.assertTrue(laws or any(turned[it] != "-" for it in names))
         every = {it.split("/")[-1] for crate in theorem.CRATES for it in theorem.files(f"{crate}/must-fail/*.edit")}
-        self.assertEqual(set().union(*(edits for edits, _ in turned.values())), every)
+        self.assertEqual({*re.findall(r"`(\w+\.edit)`", " ".join(turned.values()))}, every)
 
     def test_the_answers_to_a_caller_in_c_are_those_of_the_header(self):
         named = re.findall(r"`(PGBOARD_\w+)(\.\.)?`", common.text_of("docs/TRUST.md"))
