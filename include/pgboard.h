@@ -92,7 +92,7 @@ uint32_t pgboard_version(void);
 #define PGBOARD_LEAVES 22u       /* (from, to) */
 #define PGBOARD_CYCLE 23u        /* (the vertex with that priority) */
 
-/* what is known of a game: the choices, then all else of Even's vertices, and then of Odd's */
+/* what is known of a game: the faults of Even's vertices, and then of Odd's */
 #define PGBOARD_KNOWN_CHOICE 60u /* (the vertex) */
 #define PGBOARD_KNOWN_CYCLE 61u  /* (the vertex with that priority) */
 #define PGBOARD_KNOWN_LOST 62u   /* (the vertex) */
@@ -209,6 +209,11 @@ uint32_t pgboard_solve_within(const struct pgboard_game *game, uint64_t steps, s
 PGBOARD_CALL
 uint32_t pgboard_solve_known(const struct pgboard_game *game, const struct pgboard_solution *known,
                              struct pgboard_results *results, struct pgboard_report *report);
+
+/* The same with a bound, as of pgboard_solve_within. What is known is judged first. */
+PGBOARD_CALL
+uint32_t pgboard_solve_known_within(const struct pgboard_game *game, const struct pgboard_solution *known, uint64_t steps,
+                                    struct pgboard_results *results, struct pgboard_report *report);
 
 /* Whether winners and choices are a solution of a game: PGBOARD_OK, or the first fault. */
 PGBOARD_CALL

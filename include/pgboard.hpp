@@ -203,12 +203,22 @@ inline solution solve_within(const game_view &game, std::uint64_t steps)
     return detail::judged(try_solve_within(game, steps));
 }
 
-// Solves a game from what is known, where PGBOARD_NO_WINNER is an unknown winner.
+// Solves a game from what is known, where PGBOARD_NO_WINNER is an unknown winner; also with a bound, as above.
 inline solution solve(const game_view &game, const solution_view &known)
 {
     const pgboard_game arrays = detail::arrays(game);
     const pgboard_solution given = detail::arrays(known);
     return detail::judged(detail::written(game.owners.size(), [&](auto *results, auto *report) { return pgboard_solve_known(&arrays, &given, results, report); }));
+}
+inline outcome<solution> try_solve_within(const game_view &game, const solution_view &known, std::uint64_t steps)
+{
+    const pgboard_game arrays = detail::arrays(game);
+    const pgboard_solution given = detail::arrays(known);
+    return detail::written(game.owners.size(), [&](auto *results, auto *report) { return pgboard_solve_known_within(&arrays, &given, steps, results, report); });
+}
+inline solution solve_within(const game_view &game, const solution_view &known, std::uint64_t steps)
+{
+    return detail::judged(try_solve_within(game, known, steps));
 }
 
 // Checks that winners and choices are a solution of a game; a fault says what is wrong first.

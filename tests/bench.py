@@ -1,5 +1,5 @@
 #!/usr/bin/env python3
-"""Tests of bench/run: tests/bench.py [PROGRAM] [-k WORD]"""
+"""Tests of bench/run."""
 
 import math
 import os

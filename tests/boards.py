@@ -1,5 +1,5 @@
 #!/usr/bin/env python3
-"""Tests of examples/board and bench/library over the static library: tests/boards.py [PROGRAM] [-k WORD]"""
+"""Tests of examples/board and bench/library_calls over the static library."""
 
 import os
 import random
@@ -15,33 +15,12 @@ import common
 import embed
 import plain
 import random_games
+import scripts
 
 BOARD = common.ROOT / "examples" / "board"
 SAID = re.compile(r"referee: solver (\d+) \((.*)\): (.*), \d+\.\d s: (.*)")
 NO_CHOICE = 4_294_967_295
 GAME = {3: (2, 0, {3, 9}), 9: (1, 1, {9}), 12: (0, 1, {3})}
-# what a solver prints, and what is said of it
-SAID_OF = {
-    "3 0 3; 9 1 9; 12 0;": "Even settled 2, of which 2 of 2 claimed; Odd settled 1, of which 1 of 1 claimed",
-    "3 0 3;": "Even settled 2, of which 1 of 1 claimed",
-    f"3 0 {'0' * 4400}3;": "Even settled 2, of which 1 of 1 claimed",
-    # (the winner of 12 does not own it)
-    "3 0 3; 12 0 3;": "Even settled 2, of which 2 of 2 claimed",
-    "3 0 9;": "Even refused: 3 leaves to 9",
-    "3 0 4;": "Even refused: bad choice or none at 3",
-    "3 0 9; 9 0;": "Even refused: bad cycle at 9",
-    "3 0; 9 1 9;": "Even refused: bad choice or none at 3; Odd settled 1, of which 1 of 1 claimed",
-    "12 1 3; 9 1 12;": "Odd refused: bad choice or none at 9",
-    "": "nothing is claimed",
-    "\n\nhello;\n3 0 3;": "output:3:1: expected an identifier, found hello",
-    "3 0 3;\n\n 9 2 9;": "output:3:4: winner is not 0 or 1",
-    "4 0;": "vertex 4: not in the game",
-    "3 0 3; 9 1 9; 3 0 3;": "output:1:15: vertex 3: written twice",
-    "\xff;": "output:1:1: expected an identifier, found \ufffd",
-    "paritysol 1; paritysol 2; 9 1 4;": "Odd refused: bad choice or none at 9",
-    "won by odd: 9->9\nwon by even: 12 3->3": "Even settled 2, of which 2 of 2 claimed; "
-    "Odd settled 1, of which 1 of 1 claimed",
-}  # fmt: skip
 
 
 @common.needs("rt", "cc")
@@ -118,9 +97,9 @@ class Referee(Boards):
         self.assertEqual(([it[3] for it in lines], left), (wanted, 1))
 
     def test_what_is_said_of_a_solver(self):
-        for text, said in SAID_OF.items():
+        for said, text in scripts.rows_of("claimed.txt"):
             with self.subTest(text):
-                lines, left = self.referee(GAME, f"cat {self.file('solution', text.encode('latin-1'))}")
+                lines, left = self.referee(GAME, f"cat {self.file('solution', scripts.bytes_of(text))}")
                 settled = sum(map(int, re.findall(r"settled (\d)", said)))
                 self.assertEqual((lines[0][2:], left), (("status 0", said), len(GAME) - settled))
 
@@ -471,7 +450,7 @@ class Outside(Boards):
 
 @common.needs("rustc", "c++")
 class Library(Boards):
-    SCRIPT = common.ROOT / "bench" / "library"
+    SCRIPT = common.ROOT / "bench" / "library_calls"
 
     @classmethod
     def setUpClass(cls):
@@ -486,7 +465,7 @@ class Library(Boards):
 
     def test_the_command_of_the_page_prints_its_table(self):
         page = common.text_of("docs/BENCHMARKS.md")
-        words = re.findall(r"(?m)^bench/library (.+)$", page)
+        words = re.findall(r"(?m)^bench/library_calls (.+)$", page)
         heads = re.findall(r"(?m)^(\| game \| `solve` in memory.*)$", page)
         self.assertEqual((len(words), len(heads)), (1, 1))
         status, shown = self.table(*words[0].split())

@@ -1,5 +1,5 @@
 #!/usr/bin/env python3
-r"""Compares what a built program prints, byte by byte, and its status: tests/cli.py [PROGRAM] [-k WORD]
+r"""Compares what a built program prints, byte by byte, and its status.
 
 tests/README.md says what a file of tests/cli is. Its text before the first section is a note; `stdout` more than once is one of
 them, and `stderr` one for each run. Texts are ASCII with the escapes of Python's bytes, as \xff.

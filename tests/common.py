@@ -20,7 +20,7 @@ sys.dont_write_bytecode = True
 ROOT = pathlib.Path(__file__).resolve().parent.parent
 # in the gate no test may be skipped
 IS_GATE = bool(os.environ.get("PGBOARD_GATE"))
-# the tree in which rt proves and builds the C library: in the gate library.py has done so in a copy
+# the tree in which rt proves and builds the C library: in the gate build_library.py has done so in a copy
 PROVED = pathlib.Path(os.environ.get("PGBOARD_PROVED") or ROOT)
 # what `rt ci` and `rt run` build
 BUILT = ROOT / "crates" / "pgboard_program" / "out" / "pgboard_program"

@@ -1,5 +1,5 @@
 #!/usr/bin/env python3
-"""Builds the static library, and looks at what C and Python see of it: tests/embed.py [PROGRAM] [-k WORD]"""
+"""Builds the static library, and looks at what C and Python see of it."""
 
 import collections
 import itertools
@@ -11,9 +11,9 @@ import shutil
 import sys
 import unittest
 
+import build_library
 import common
 import faults
-import library
 import pages
 import plain
 import plain_board
@@ -121,8 +121,8 @@ def build_archive(folder):
     (Another script may build it again.)
     """
     if not OTHER:
-        made = library.built()
-        with library.locked(common.PROVED):
+        made = build_library.built()
+        with build_library.locked(common.PROVED):
             ARCHIVES[0] = shutil.copy(made, folder)
 
 
@@ -173,7 +173,7 @@ class Embed(unittest.TestCase):
         declared = re.findall(r"(?ms)^(?:uint32_t|uint64_t|void) (\w+)\([^;]*;", HEADER)
         crate = "".join(path.read_text() for path in (CRATE / "src").glob("*.rt"))
         self.assertEqual(sorted(declared), sorted(re.findall(r'pub extern "C" fn (\w+)', crate)))
-        self.assertEqual(len(declared), 25)
+        self.assertEqual(len(declared), 26)
 
     def test_the_manual_page_has_the_calls_and_structs_of_the_header(self):
         page = common.text_of("packaging/man/pgboard.3")
@@ -187,7 +187,7 @@ class Embed(unittest.TestCase):
         shown = in_one("\n".join(lines).split(".SH DESCRIPTION")[0])
         calls = {in_one(it) for it in re.findall(r"(?ms)^(?:uint32_t|uint64_t|void) [^;]*;", HEADER)}
         calls |= {f"{it};" for it in re.findall(r"(?m)^PGBOARD_INLINE (const char .*\))$", HEADER)}
-        self.assertEqual(len(calls), 27)
+        self.assertEqual(len(calls), 28)
         structs = {in_one(it) for it in re.findall(r"(?ms)^struct \w+ \{.*?^\};", HEADER)}
         self.assertEqual(len(structs), 10)
         self.assertEqual(set(re.findall(r"(?:const char \*|\w+ )pgboard_\w+\([^;{]*\);", shown)), calls)

@@ -1,5 +1,5 @@
 #!/usr/bin/env python3
-"""Tests what repeats tools/faults.txt, the table of the library's answers: tests/faults.py [-k WORD]"""
+"""Tests what repeats tools/faults.txt, the table of the library's answers."""
 
 import re
 import runpy
@@ -13,7 +13,7 @@ NUMBERS = common.text_of("crates/pgboard_c/specs/Numbers.antt")
 # the names of faults by the enumeration that has them, and the one that C has another name for
 GROUPS = {it: f"{it.upper()}_" for it in ("solution", "known", "board", "post", "array")}
 GROUPS |= {"text": "GAME_", "structure": "STRUCT_"}
-OTHER_NAMES = {"NO_CHOICE": "NO_CHOICE_AT"}
+OTHER_NAMES = {"NO_CHOICE": "NO_CHOICE_AT", "KNOWN_OPEN": "KNOWN_LEAVES"}
 # the other numbers of the header
 OTHERS = {"NO_CHOICE": 4294967295, "NO_WINNER": 255}
 LIMITS = "max_vertices", "max_edges", "max_number", "max_text"

@@ -1,5 +1,5 @@
 #!/usr/bin/env python3
-"""Tests what repeats the program's help: tests/help.py [PROGRAM] [-k WORD]"""
+"""Tests what repeats the program's help."""
 
 import os
 import re
@@ -7,40 +7,11 @@ import unittest
 
 import common
 
-# A shell runs a script over the words, which has the path of the completions as $0.
-BASH = r"""
-source "$0"
-COMP_WORDS=("$@") COMP_CWORD=$(($# - 1))
-_pgboard "$1"
-printf '%s\n' "${COMPREPLY[@]}"
-if [ ${#COMPREPLY[@]} = 0 ] && [[ $(complete -p pgboard) == *' -o default '* ]]; then compgen -f; fi
-"""
-ZSH = r"""
-_describe() { print -l -- ${commands%%:*} }
-_arguments() {
-    local before=$words[CURRENT-1] it
-    for it; do
-        case $it in
-        $before'['*:_files) print -l -- * && return ;;
-        $before'['*) eval "print -l -- ${${it##*\(}%\)}" && return ;;
-        esac
-    done
-    if [[ $words[CURRENT] = -* ]]; then print -l -- ${${(M)@:#--*}%%\[*}
-    elif (($@[(I)\*:file:_files])); then print -l -- *
-    fi
-}
-run() { local words=("$@") CURRENT=$#; source $file }
-file=$0
-run "$@"
-"""
-FISH = r"""
-source $argv[1]
-complete -C "$argv[2..]"
-"""
+# how a shell runs a script, and its completions
 SHELLS = {
-    "bash": ["bash", "-c", BASH, common.ROOT / "packaging/completions/pgboard.bash"],
-    "zsh": ["zsh", "-f", "-c", ZSH, common.ROOT / "packaging/completions/_pgboard"],
-    "fish": ["fish", "--no-config", "-c", FISH, common.ROOT / "packaging/completions/pgboard.fish"],
+    "bash": (["bash"], "pgboard.bash"),
+    "zsh": (["zsh", "-f"], "_pgboard"),
+    "fish": (["fish", "--no-config"], "pgboard.fish"),
 }
 
 
@@ -81,7 +52,9 @@ class Help(unittest.TestCase):
     def check_offers(self, typed, wanted):
         for shell in common.installed(*SHELLS):
             with self.subTest(shell, typed=typed):
-                words = [*SHELLS[shell], "pgboard", *typed.split(" ")]
+                call, name = SHELLS[shell]
+                paths = f"tests/completions/offers.{shell}", f"packaging/completions/{name}"
+                words = [*call, *map(common.ROOT.joinpath, paths), "pgboard", *typed.split(" ")]
                 status, out, err = common.run(words, cwd=self.folder, env=self.env)
                 said = {line.partition("\t")[0] for line in out.decode().split("\n")}
                 self.assertEqual((status, err, said - {""}), (0, b"", wanted))

@@ -1,5 +1,5 @@
 #!/usr/bin/env python3
-"""Shows that ./package makes what a machine without the kit can use: tests/package.py [PROGRAM] [-k WORD]"""
+"""Shows that ./package makes what a machine without the kit can use."""
 
 import gzip
 import os
@@ -12,8 +12,8 @@ import tarfile
 import unittest
 import zipfile
 
+import build_library
 import common
-import library
 import pages
 
 GAME, SOLUTION = b"parity 1;\n0 2 0 0,1;\n1 1 1 1;\n", b"paritysol 1;\n0 0 0;\n1 1 1;\n"
@@ -31,15 +31,7 @@ COMPLETIONS = {
     "_pgboard": ["share/zsh/site-functions/_pgboard", "share/zsh/vendor-completions/_pgboard"],
     "pgboard.fish": ["share/fish/vendor_completions.d/pgboard.fish"] * 2,
 }
-CMAKE = """cmake_minimum_required(VERSION 3.13)
-project(embed C)
-find_package(pgboard {version} REQUIRED)
-find_package(pgboard {version} REQUIRED)
-foreach(target pgboard pgboard_static)
-  add_executable(by_${{target}} embed.c)
-  target_link_libraries(by_${{target}} pgboard::${{target}})
-endforeach()
-"""
+CMAKE = common.text_of("tests/package/CMakeLists.txt")
 # the status of CMake for a version that a project asks for; the package's own is 0.1.0
 ASKED = {"": 0, "0": 0, "0.1.0 EXACT": 0, "0.0": 1, "0.1.99": 1, "0.2": 1, "1": 1, "0.1 EXACT": 1, "0.1": 0}
 # what each package for Debian needs
@@ -102,7 +94,7 @@ class Packaged(unittest.TestCase):
     @classmethod
     def setUpClass(cls):
         cls.folder = common.make_folder(cls)
-        library.take_as_built(common.PROVED, "pgboard_program")
+        build_library.take_as_built(common.PROVED, "pgboard_program")
         cls.tree = Checkout(common.ROOT, cls.folder / "git")
         cls.tree.commit()
         # what git does not have is in no package
@@ -152,7 +144,7 @@ class Packaged(unittest.TestCase):
         other, again = self.folder / "another path", self.folder / "again"
         other.mkdir()
         common.copy_crates(other)
-        library.take_as_built(other, "pgboard_program")
+        build_library.take_as_built(other, "pgboard_program")
         (self.folder / "scratch").mkdir()
         habits = {"TMPDIR": str(self.folder / "scratch"), "TZ": "Asia/Tokyo", "LC_ALL": "C.UTF-8"}
         habits.update(GIT_CONFIG_COUNT="1", GIT_CONFIG_KEY_0="core.autocrlf", GIT_CONFIG_VALUE_0="true")
@@ -404,7 +396,7 @@ class Packaged(unittest.TestCase):
         (folder / "embed.c").write_text(program)
         flags = [f"-DCMAKE_PREFIX_PATH={prefix}", "-DCMAKE_LIBRARY_ARCHITECTURE=x86_64-linux-gnu"]
         for version, status in ASKED.items():
-            (folder / "CMakeLists.txt").write_text(CMAKE.format(version=version))
+            (folder / "CMakeLists.txt").write_text(CMAKE.replace("VERSION_ASKED", version))
             ran = common.run(["cmake", "-S", folder, "-B", folder / f"of{version}", *flags])
             self.assertEqual(ran[0], status, version)
         done("cmake", "--build", folder / "of0.1")

@@ -189,27 +189,6 @@ def ladder(levels):
     }
 
 
-def part(game, vertices):
-    return {
-        id: (priority, owner, row & vertices) for id, (priority, owner, row) in game.items() if id in vertices
-    }
-
-
-def winners(game):
-    """The winners by Zielonka's recursion (1998), without their choices."""
-    if not game:
-        return {}
-    player, greatest = begun(game, game.keys())
-    set_aside = attracted(game, greatest, player)
-    found = winners(part(game, game.keys() - set_aside))
-    lost = {id for id, winner in found.items() if winner != player}
-    if not lost:
-        return dict.fromkeys(game, player)
-    lost = attracted(game, lost, 1 - player)
-    found = winners(part(game, game.keys() - lost))
-    return {**found, **dict.fromkeys(lost, 1 - player)}
-
-
 def begun(game, vertices):
     """The player of the greatest priority, and its vertices."""
     top = max(game[id][0] for id in vertices)
@@ -277,6 +256,10 @@ class Recursion:
 
     def kept_edges(self, id, player):
         return {self.choices[id]} if self.game[id][1] == player else self.game[id][2]
+
+
+def winners(game):
+    return Recursion(game).winners
 
 
 def lines_of_rows(head, rows):

@@ -141,30 +141,6 @@ def random_solution(chance, game):
     return solution
 
 
-def right_solution(game):
-    """A solution by trying all sets and choices of a player in turn: the greatest region of each."""
-    return {id: (player, choice) for player in (0, 1) for id, choice in best_region(game, player).items()}
-
-
-def best_region(game, player):
-    """The union of all regions of a player, found one choice after the other."""
-    won = {}
-    owned = [id for id in game if game[id][1] == player]
-    for choices in itertools.product(*(sorted(game[id][2]) for id in owned)):
-        chosen = dict(zip(owned, choices))
-        solution = {id: (player, chosen.get(id)) for id in game}
-        # what can reach a bad closed walk under these choices is lost, the rest is a region
-        bad = {
-            id
-            for id in game
-            if game[id][0] % 2 != player and plain.is_greatest_on_a_closed_walk(game, solution, id)
-        }
-        while more := {id for id in game if id not in bad and plain.kept(game, solution, id) & bad}:
-            bad |= more
-        won = {**{id: chosen.get(id) for id in game if id not in bad}, **won}
-    return won
-
-
 def some_of(chance, solution):
     return {id: row for id, row in solution.items() if chance.random() < 0.6}
 
@@ -269,13 +245,11 @@ class Checks:
 
     def all(self):
         chance, game = self.chance, self.game
-        right, other = right_solution(game), random_solution(chance, game)
+        run = plain.Recursion(game)
+        right, other = {id: (run.winners[id], run.choices.get(id)) for id in game}, random_solution(chance, game)
         part = some_of(chance, right)
         wrong = random_solution_text(chance, with_a_fault(chance, game, part))
-        yield "the definitions", None if plain.verdict(game, right) == "ok\n" else f"{right} of {game}"
-        run = plain.Recursion(game)
-        found = {id: (run.winners[id], run.choices.get(id)) for id in game}
-        yield "the plain recursion", None if plain.verdict(game, found) == "ok\n" else f"{found} of {game}"
+        yield "the plain recursion", None if plain.verdict(game, right) == "ok\n" else f"{right} of {game}"
         for name, text in (("tidy", self.text), ("tidy of a damaged text", damaged(chance, self.text))):
             yield name, self.differs(["tidy"], text, plain.tidied(text))
         for solution in (right, other):

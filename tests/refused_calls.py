@@ -1,5 +1,5 @@
 #!/usr/bin/env python3
-"""Refuses allocations, starts of threads, reads and writes: tests/refused_calls.py [PROGRAM] [-k WORD]"""
+"""Refuses allocations, starts of threads, reads and writes."""
 
 import concurrent.futures
 import itertools

@@ -49,6 +49,13 @@ def rows_of(name):
     return [[it.strip(" ") for it in split(line)] for line in lines if not line.startswith("#")]
 
 
+def bytes_of(text):
+    """The bytes of a row's text, with what its words in capitals stand for."""
+    for word, meant in {"THE_HEAD": HEAD, "THE_BODY": BODY, "ZEROS": "0" * 4400}.items():
+        text = text.replace(word, meant)
+    return text.encode().decode("unicode_escape").encode("latin-1")
+
+
 def command_of(name):
     script = EXAMPLES / f"{name}.py"
     return [sys.executable, "-B", *([script] if script.exists() else [BINDINGS / "pgboard", name])]

@@ -1,5 +1,5 @@
 #!/usr/bin/env python3
-"""Holds docs/THEOREM.md, PROVED.md, CONTRACTS.md and ARCHITECTURE.md to the sources: tests/theorem.py"""
+"""Holds docs/THEOREM.md, PROVED.md, CONTRACTS.md and ARCHITECTURE.md to the sources."""
 
 import collections
 import graphlib

@@ -1,6 +1,7 @@
 #!/usr/bin/env python3
-"""Tests of the package's command over the program, and of how it and the scripts of examples/ end:
-tests/uses.py [PROGRAM] [-k WORD]. With --write the pictures of docs/pictures are made anew.
+"""Tests of the package's command over the program, and of how it and the scripts of examples/ end.
+
+With --write the pictures of docs/pictures are made anew.
 """
 
 import bz2
@@ -59,71 +60,8 @@ def spelled_game(chance, game, headers):
 
 # how a file may be packed
 PACKED = [bytes, gzip.compress, bz2.compress, lzma.compress, lambda data: common.run(["zstd", "-c"], data)[1]]
-# as PGSolver and Oink print a solution
-LISTED = """Chosen solver `recursive' .................... 0.00 sec
-
-Player 0 wins from nodes:
-  {0, 12}
-with strategy
-  [0->12]
-
-Player 1 wins from nodes:
-  {3}
-with strategy
-  [3->3]
-Overall time: 12
-"""
-BY_OINK = "[ 0.01] solved in 12 iterations\nwon by even: 0->12 12\nwon by odd: 3->3\n[ 0.02] done 7\n"
-ON_A_LINE = "Player 0 wins from nodes: {0, 12} with strategy [0->12] Player 1 wins from nodes: {3}\n[3->3]"
 SOLUTION = "paritysol 12;\n0 0 12;\n3 1 3;\n12 0;\n"
-LEAST = "0 0 0 1;\n1 3 1 0;\n", "parity 1;\n0 4 0 1;\n1 1 1 0;\n"
 ONE = "parity 0;\n0 8 0 0;\n"
-ZEROS = "0" * 4400
-# the fact, flags, the text, and what is written
-CONVERTED = [
-    (
-        "names stay as they are",
-        "",
-        'start 0; 0 8 0 0 "# not // a note";',
-        'parity 0;\nstart 0;\n0 8 0 0 "# not // a note";\n',
-    ),
-    ("two start lines", "--min", "parity 0; start 00;\n0 8 0 0;start 0;", "parity 0;\nstart 0;\n0 0 0 0;\n"),
-    ("a start line in a name", "", '0 8 0 0 "start 3;";', 'parity 0;\n0 8 0 0 "start 3;";\n'),
-    ("a byte order mark", "", "\ufeffparity 0;\n0 8 0 0;\n", ONE),
-    ("a byte order mark in a packed file", "", gzip.compress("\ufeff0 8 0 0;".encode()), ONE),
-    ("a file of two packed parts", "", gzip.compress(b"0 8 ") + gzip.compress(b"0 0;\n"), ONE),
-    ("standard input by name", "-", "0 8 0 0;", ONE),
-    ("odd priorities for player 0", "--odd", "0 0 0 1;\n1 3 1 0;\n", "parity 1;\n0 1 0 1;\n1 4 1 0;\n"),
-    ("the least priority by a header", "", f"minparity 1;\n{LEAST[0]}", LEAST[1]),
-    ("the least priority by both", "--min", f"minparity 1;\n{LEAST[0]}", LEAST[1]),
-    (
-        "a header of the greatest identifier",
-        "",
-        "9 8 0 10;\n10 8 0 9;\n",
-        "parity 10;\n9 8 0 10;\n10 8 0 9;\n",
-    ),
-    ("the greatest priority", "--odd", "0 2147483646 0 0;\n", "parity 0;\n0 2147483647 0 0;\n"),
-    ("quotes in a name", "", r'0 8 0 0 "a \"b\"";', "parity 0;\n0 8 0 0 \"a 'b'\";\n"),
-    ("a name that ends in a backslash", "", '0 8 0 0 "C:\\";', 'parity 0;\n0 8 0 0 "C:\\";\n'),
-    ("quotes in comments", "", '# 5" and 6"\n0 8 0 0 "a"; # "\n', 'parity 0;\n0 8 0 0 "a";\n'),
-    ("a line after a name", "", '0 8 0 0 "a";\n1 8 0 1; # "b";\n', 'parity 1;\n0 8 0 0 "a";\n1 8 0 1;\n'),
-    ("a name of two lines", "", '0 8 0 0 "a;\n1 8 0 1";\n', 'parity 0;\n0 8 0 0 "a;\n1 8 0 1";\n'),
-    ("an automaton", "", common.text_of("examples/synthesise/arbiter_2_at_once.hoa"), scripts.ARENA),
-    ("zeros before numbers", "", f"parity {ZEROS}; {ZEROS} {ZEROS}8 {ZEROS} {ZEROS},0{ZEROS};", ONE),
-    ("zeros in a solution", "--solution", f"paritysol {ZEROS}; 0 {ZEROS} {ZEROS};", "paritysol 0;\n0 0 0;\n"),
-    ("zeros in a listing", "--solution", f"won by odd: {ZEROS}->{ZEROS}", "paritysol 0;\n0 1 0;\n"),
-    ("a listing of PGSolver", "--solution", LISTED, SOLUTION),
-    ("a listing of Oink", "--solution", BY_OINK, SOLUTION),
-    ("a listing on one line", "--solution", ON_A_LINE, SOLUTION),
-    ("no vertices in a part", "--solution", f"won by odd:\n{BY_OINK}Winner: 1: {{}}", SOLUTION),
-    (
-        "a solution after a log",
-        "--solution",
-        "solved in 3 s; #\nparitysol 0;\n0 0 0;\n",
-        "paritysol 0;\n0 0 0;\n",
-    ),
-    ("a part of a solution", "--solution", '2 1 3 "#"; // all', "paritysol 2;\n2 1 3;\n"),
-]
 
 
 class Convert(Use, unittest.TestCase):
@@ -135,9 +73,16 @@ class Convert(Use, unittest.TestCase):
         )
 
     def test_texts(self):
-        for name, flags, text, wanted in CONVERTED:
+        rows = [[*it[:2], *map(scripts.bytes_of, it[2:])] for it in scripts.rows_of("converted.txt")]
+        automaton = common.text_of("examples/synthesise/arbiter_2_at_once.hoa")
+        rows += [
+            ("an automaton", "", scripts.ARENA.encode(), automaton),
+            ("a byte order mark in a packed file", "", ONE.encode(), gzip.compress("\ufeff0 8 0 0;".encode())),
+            ("two packed parts", "", ONE.encode(), gzip.compress(b"0 8 ") + gzip.compress(b"0 0;\n")),
+        ]
+        for name, flags, wanted, text in rows:
             with self.subTest(name):
-                self.assertEqual(self.converted(flags.split(), text), (0, wanted, ""))
+                self.assertEqual(self.converted(flags.split(), text), (0, wanted.decode(), ""))
         self.assertEqual(self.call("--odd", self.file("given", "0 7 0 0;")), (0, ONE))
 
     def test_the_most_vertices_and_edges(self):
@@ -247,6 +192,7 @@ class Convert(Use, unittest.TestCase):
         wanted = [5, 7], [0, 1], [1, 0], [0, 1, 2], [1, 1]
         self.assertEqual(tuple(map(list, found)), wanted)
         self.assertEqual([it.typecode for it in found[1:]], ["B", "I", "I", "I"])
+        self.assertEqual(list(read_game(self.file("game", "0 3 0 0;"), odd=True).priorities), [4])
         with self.assertRaisesRegex(ValueError, "game:1:5: owner is not 0 or 1$"):
             read_game(self.file("game", "0 0 2 0;"))
         with self.assertRaises(OSError):
@@ -360,15 +306,19 @@ class Draw(Use, unittest.TestCase):
                     self.check_drawn(self.call("--trace", trace, "--entries", count, path)[1], game, solution)
 
     def test_dead_ends_are_those_of_the_text(self):
-        game = self.file("game.pg", '1 4 0 ; 0 4 0 1 "a";')
-        for words, priority in ((["--dead-ends"], 4), (["--dead-ends", "--min"], 4)):
-            vertices, edges = graph_of(self.call(*words, game, self.file("sol", "0 1; 1 1;"))[1])
-            self.assertEqual((list(vertices), list(edges)), (["0", "1"], [("0", "1")]))
-            self.assertIn(f"label=<{priority}<br/><font", vertices["1"])
+        game, picture = self.file("game.pg", '1 4 0 ; 0 4 0 1 "a";'), self.folder / "picture.dot"
+        for words in (["--dead-ends"], ["--dead-ends", "--min"]):
+            scripts.called(self.script, ["winner", *words, "--vertex", "0", "--picture", picture, game])
+            text = self.call(*words, game, self.file("sol", "0 1; 1 1;"))[1]
+            for vertices, edges in map(graph_of, (text, picture.read_text())):
+                self.assertEqual((list(vertices), list(edges)), (["0", "1"], [("0", "1")]))
+                self.assertIn("label=<4<br/><font", vertices["1"])
         numbers = json.loads(scripts.called(self.script, ["stats", "--json", "--dead-ends", game])[1])
         self.assertEqual((numbers["edges"], numbers["own loops"]), (1, 0))
         self.assertEqual(numbers["greatest degrees"], {"out": 1, "in": 1})
         self.assertEqual(numbers["priorities"], {"least": 4, "greatest": 4, "different": 1})
+        dead = scripts.called(self.script, ["stats", "--dead-ends", self.file("dead.pg", "0 1 0;")])[1]
+        self.assertIn("\ngreatest degrees: out 0, in 0\n", dead)
 
     def test_a_picture_has_at_most_200_vertices(self):
         game = lambda count: self.file(f"{count}.pg", "".join(f"{v} 0 0 {v};\n" for v in range(count)))
@@ -486,6 +436,10 @@ class Explain(Use, unittest.TestCase):
         self.said(game, "".join(f"{v} 0 {v};\n" for v in (0, *loops)), "--picture", picture)
         vertices, edges = graph_of(picture.read_text())
         self.assertEqual((len(vertices), "red" in edges["0", "0"]), (200, True))
+        ring = [(v, (v + 1) % 201) for v in range(201)]
+        with self.assertRaisesRegex(self.script.Refused, "picture.dot: 201 vertices are too many"):
+            texts = "".join(f"{v} 1 0 {to};" for v, to in ring), "".join(f"{v} 0 {to};" for v, to in ring)
+            self.said(*texts, "--picture", picture)
 
     def test_names_are_shown_without_what_a_terminal_would_obey(self):
         self.assertIn('  0 "a\\x1b[2Jb": priority 1', self.said('0 1 0 0 "a\x1b[2Jb";', "0 0 0;"))
@@ -795,9 +749,8 @@ class Refused(Use, unittest.TestCase):
         mains = {it: common.load(EXAMPLES / f"{it}.py") for it in ("modelcheck", "synthesise")}
         for script, words, place, said, text in scripts.rows_of("refused.txt"):
             with self.subTest(script, words=words, text=text):
-                text = text.replace("THE_HEAD", scripts.HEAD).replace("THE_BODY", scripts.BODY)
-                text = text.encode().decode("unicode_escape")
-                given = text.encode("latin-1")
+                given = scripts.bytes_of(text)
+                text = given.decode("latin-1")
                 pathlib.Path(file).write_bytes(given)
                 words = [{**files, "TEXT": text}.get(it, it) for it in shlex.split(words)]
                 name = script if script in mains else "pgboard"
@@ -844,15 +797,7 @@ def path_text(path, file, text):
 
 # --- how the command and the scripts end ---
 
-# for bash, in which each is called by its name, as a user types it
-CALLS = """set -o pipefail
-pgboard() {{ {python} -B {bindings}/pgboard "$@"; }}
-modelcheck() {{ {python} -B {examples}/modelcheck.py "$@"; }}
-synthesise() {{ {python} -B {examples}/synthesise.py "$@"; }}
-python() {{ {python} -B "$@"; }}
-"""
-AT = '#!/bin/sh\nword=$1; line=$2; shift 2\n[ "$1" != "$word" ] || eval "$line"\nexec {} "$@"\n'
-FILES = ["both_win.pg", "both_win.sol", "both_win.wrong", "modelcheck/mutex.aut"]
+FILES = ["both_win.pg", "both_win.sol", "both_win.wrong", "modelcheck/mutex.aut", "../tests/uses/at"]
 FILES += ["synthesise/arbiter_2.hoa", "synthesise/arbiter_2_at_once.hoa"]
 WINNER = [*command_of("winner"), "--vertex", "0", EXAMPLES / "both_win.pg"]
 MODELCHECK = [*command_of("modelcheck"), EXAMPLES / "modelcheck" / "mutex.aut", "true"]
@@ -888,9 +833,12 @@ class Ends(unittest.TestCase):
             self.addCleanup(signal.signal, number, signal.signal(number, lambda *_: None))
 
     def ended(self, line):
-        calls = CALLS.format(python=sys.executable, bindings=BINDINGS, examples=EXAMPLES)
+        calls = common.text_of("tests/uses/calls.bash")
         env = {
             **os.environ,
+            "PYTHON": sys.executable,
+            "TOP": str(common.ROOT),
+            "TESTED": str(common.PROGRAM),
             "PGBOARD": shlex.quote(str(common.PROGRAM)),
             "PYTHONPATH": str(BINDINGS),
             "LONG": "A" * 5000,
@@ -911,7 +859,6 @@ class Ends(unittest.TestCase):
         (self.folder / "named.pg").write_text('0 0 0 0,1 "\u03a9"; 1 1 1 1;')
         (self.folder / "away.pg").write_text("0 1 0 1; 1 2 0 1;")
         (self.folder / "full.dot").symlink_to("/dev/full")
-        common.write_program(self.folder / "at", AT.format(common.PROGRAM))
         form = lambda text: re.escape(text.replace("\\n", "\n")).replace(r"\.\.\.", "(?s:.*)")
         is_answer = True
         for line, status, *said in scripts.rows_of("ends.txt"):

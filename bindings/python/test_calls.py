@@ -42,6 +42,44 @@ def interrupt():
         os.kill(os.getpid(), signal.SIGINT)
     threading.Thread(target=later).start()
 """
+# an interrupt ends each call that may take long, and what a bound or a timeout ends can go on
+INTERRUPTED = """row = '{} {} {} {};'.format
+lines = enumerate(zip(*ENDLESS))
+text = ''.join(row(v, p, o, ','.join(map(str, to))) for v, (o, p, to) in lines)
+board = pgboard.Board(*ENDLESS)
+for call in (lambda: pgboard.solve(*ENDLESS), lambda: pgboard.solve_text(text), board.finish):
+    late = []
+    for _ in range(4):
+        try:
+            interrupt()
+            call()
+        except KeyboardInterrupt:
+            late.append(time.monotonic() - interrupt.sent)
+            print(late[-1] < 10, wait_for(lambda: threading.active_count() == 1))
+    print(min(late) < 1)
+for limits in ({'timeout': 0.2}, {'steps': 10}):
+    try:
+        counted.most = limits.get('steps', 0)
+        board.finish(**limits)
+    except (pgboard.GaveUp, pgboard.TimedOut) as error:
+        print(error, len(board.unsettled()) + board.settled == len(ENDLESS[0]))
+"""
+# the calls make no child and no thread, and send no signal
+ALONE = """def refuse(*_, **__):
+    raise AssertionError
+os.kill = os.killpg = os.fork = signal.pthread_kill = signal.signal = refuse
+subprocess.Popen.__init__ = refuse
+large = [0] * 200, [0] * 200, [[0]] * 200
+assert pgboard.solve(*large)[0] == [0] * 200
+try:
+    pgboard.solve(*ENDLESS, timeout=0.02)
+except pgboard.TimedOut:
+    print(threading.active_count(), len(os.listdir('/proc/self/task')))
+try:
+    os.wait()
+except ChildProcessError:
+    print('none')
+"""
 
 
 def outcome_of(call):
@@ -59,51 +97,13 @@ class Calls(Tests):
         return out
 
     def test_an_interrupt_ends_a_long_call(self):
-        program = (
-            "row = '{} {} {} {};'.format\n"
-            "lines = enumerate(zip(*ENDLESS))\n"
-            "text = ''.join(row(v, p, o, ','.join(map(str, to))) for v, (o, p, to) in lines)\n"
-            "board = pgboard.Board(*ENDLESS)\n"
-            "for call in (lambda: pgboard.solve(*ENDLESS), lambda: pgboard.solve_text(text), board.finish):\n"
-            "    late = []\n"
-            "    for _ in range(4):\n"
-            "        try:\n"
-            "            interrupt()\n"
-            "            call()\n"
-            "        except KeyboardInterrupt:\n"
-            "            late.append(time.monotonic() - interrupt.sent)\n"
-            "            print(late[-1] < 10, wait_for(lambda: threading.active_count() == 1))\n"
-            "    print(min(late) < 1)\n"
-            "for limits in ({'timeout': 0.2}, {'steps': 10}):\n"
-            "    try:\n"
-            "        counted.most = limits.get('steps', 0)\n"
-            "        board.finish(**limits)\n"
-            "    except (pgboard.GaveUp, pgboard.TimedOut) as error:\n"
-            "        print(error, len(board.unsettled()) + board.settled == len(ENDLESS[0]))\n"
-        )
         # (other work on the machine may take a second once, and not four times)
         gave_up, timed_out = f"{pgboard.GaveUp()} True\n", f"{pgboard.TimedOut()} True\n"
         wanted = ("True True\n" * 4 + "True\n") * 3 + timed_out + gave_up
-        self.assertEqual(self.run_of(program), wanted)
+        self.assertEqual(self.run_of(INTERRUPTED), wanted)
 
     def test_no_child_is_made_and_no_signal_is_sent(self):
-        program = (
-            "def refuse(*_, **__):\n"
-            "    raise AssertionError\n"
-            "os.kill = os.killpg = os.fork = signal.pthread_kill = signal.signal = refuse\n"
-            "subprocess.Popen.__init__ = refuse\n"
-            "large = [0] * 200, [0] * 200, [[0]] * 200\n"
-            "assert pgboard.solve(*large)[0] == [0] * 200\n"
-            "try:\n"
-            "    pgboard.solve(*ENDLESS, timeout=0.02)\n"
-            "except pgboard.TimedOut:\n"
-            "    print(threading.active_count(), len(os.listdir('/proc/self/task')))\n"
-            "try:\n"
-            "    os.wait()\n"
-            "except ChildProcessError:\n"
-            "    print('none')\n"
-        )
-        self.assertEqual(self.run_of(program), "1 1\nnone\n")
+        self.assertEqual(self.run_of(ALONE), "1 1\nnone\n")
 
     def test_limits_that_suffice_have_no_effect(self):
         cancel, limits = pgboard.Cancel(), [{"timeout": it} for it in (1e300, 10**400, float("inf"), None)]

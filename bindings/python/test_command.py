@@ -80,6 +80,8 @@ class Command(uses.Solve):
         status, again, _ = limited("--partial", "--known", self.file("part.sol", out))
         self.assertEqual(status, 6)
         self.assertLessEqual(known.items(), plain.known_of(game, again.encode()).items())
+        # (no slice begins in so little time)
+        self.assertEqual(limited("--partial", "--timeout", "0.000001")[:2], (6, "paritysol 0;\n"))
         status, out, _ = limited("--partial", "--json")
         found = json.loads(out)
         self.assertEqual((status, found["is_whole"]), (6, False))

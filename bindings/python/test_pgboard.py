@@ -135,7 +135,7 @@ class Arrays(Tests):
 
     def test_refuses_what_is_known(self):
         """By one call, and by posts to a board, which come before the one call where a game is not small."""
-        lost = [0, 1], [2, 1], [[0], [0]]
+        lost, loops = ([0, 1], [2, 1], [[0], [0]]), ([0, 1], [1, 1], [[0], [1]])
         for size in (pgboard.solving.SMALL, -1):
             with mock.patch.object(pgboard.solving, "SMALL", size):
                 for fault, at, to, winners, choices in (
@@ -150,6 +150,7 @@ class Arrays(Tests):
                 ):
                     self.refused(fault, at, to, pgboard.solve, *TWO, known=(winners, choices))
                 self.refused(pgboard.KnownLost, 1, 0, pgboard.solve, *lost, known=([0, 1], [0, 0]))
+                self.refused(pgboard.KnownCycle, 0, 0, pgboard.solve, *loops, known=([0, 1], [0, None]))
                 for fault, at, to, *game in self.GAMES[1:]:
                     known = [None] * len(game[0]), [None] * len(game[0])
                     self.refused(fault, at, to, pgboard.solve, *game, known=known)
@@ -158,6 +159,13 @@ class Arrays(Tests):
         for levels in (3, 10):
             game = lists_of(plain.ladder(levels))
             self.refused(pgboard.GaveUp, 0, 0, pgboard.solve, *game, steps=0)
+            solved, nothing = pgboard.solve(*game), ([None] * len(game[0]),) * 2
+            self.refused(pgboard.GaveUp, 0, 0, pgboard.solve, *game, nothing, 0)
+            self.assertEqual(pgboard.solve(*game, nothing, 10**6), solved)
+            self.assertEqual(pgboard.solve(*game, solved, 0), solved)
+            wrong = [1 - it for it in solved[0]], solved[1]
+            with self.assertRaises(pgboard.NotKnown):
+                pgboard.solve(*game, wrong, 0)
             for steps in (10**6, 2**64 - 1, 2**64, 2**70):
                 self.assertEqual(pgboard.solve(*game, steps=steps), pgboard.solve(*game))
 
@@ -183,8 +191,6 @@ class Arrays(Tests):
         self.says("steps: -1 is out of range", pgboard.solve, *TWO, steps=-1, error=ValueError)
         for steps in (1.5, "3", [1]):
             self.says(f"steps {whole} {type(steps).__name__}", pgboard.solve, *TWO, steps=steps)
-        both = {"known": ([None, None], [None, None]), "steps": 5}
-        self.says("known and steps can't be given together", pgboard.solve, *TWO, **both)
 
 
 class Buffers(Tests):
@@ -311,8 +317,6 @@ class Buffers(Tests):
 class Faults(Tests):
     def test_are_value_errors_with_one_text(self):
         self.assertEqual(pgboard.Leaves(0, 1).args, (0, 1))
-        for name in pgboard.faults.__all__:
-            self.assertTrue(issubclass(getattr(pgboard, name), pgboard.Fault), name)
         for kind, base in (
             (pgboard.Fault, ValueError),
             (pgboard.OutOfMemory, MemoryError),
@@ -388,11 +392,8 @@ class Texts(Tests):
 
 
 class Package(Tests):
-    def test_exports_each_name_and_fault(self):
+    def test_exports_each_name(self):
         self.assertEqual([it for it in pgboard.__all__ if not hasattr(pgboard, it)], [])
-        is_fault = lambda it: isinstance(it, type) and issubclass(it, pgboard.Fault)
-        names = {name for name, it in vars(pgboard.faults).items() if is_fault(it)}
-        self.assertEqual((names, names - set(pgboard.__all__)), (set(pgboard.faults.__all__), set()))
         self.assertTrue(os.path.exists(os.path.join(os.path.dirname(pgboard.__file__), "py.typed")))
 
     @unittest.skipUnless(os.path.exists(os.path.join(HERE, "pyproject.toml")), "pyproject.toml is not here")
@@ -441,8 +442,9 @@ class Package(Tests):
         lines = set(map(int, re.findall(r"(?m)^<string>:(\d+): error: (?:Argument|List item)", said)))
         first = head.count("\n") + 1
         self.assertEqual(lines, set(range(first, first + len(refused))), said)
-        said = self.mypy("-c", f"{head}reveal_type(pgboard.solve_csr(b'', b'', b'', b'').winners)")[1]
-        self.assertRegex(said, 'Revealed type is "array.array\\[builtins.int')
+        types = "pgboard.solve_csr(b'', b'', b'', b'').winners, pgboard.Leaves().at"
+        said = self.mypy("-c", f"{head}reveal_type(({types}))")[1]
+        self.assertRegex(said, r'Revealed type is "[Tt]uple\[array.array\[builtins.int\], builtins.int\]')
 
 
 class Loading(Tests):

@@ -29,11 +29,6 @@ class Gates:
         left, right = max(left, right), min(left, right)
         if right < 2 or left ^ right < 2:
             return left if right == 1 or left == right else 0
-        for gate, other in ((left, right), (right, left)):
-            if other in self.inputs.get(gate, ()):
-                return gate
-            if other ^ 1 in self.inputs.get(gate, ()):
-                return 0
         if (left, right) not in self.known:
             self.known[left, right] = made = 2 * (len(self.variables) + len(self.inputs) + 1)
             self.inputs[made] = left, right

@@ -80,7 +80,7 @@ static uint32_t solve(void)
     return memcmp(&results, &same, sizeof same) == 0 ? answer : 99;
 }
 
-/* The most steps of solve_within. */
+/* The most steps of solve_within and solve_known_within. */
 static uint64_t steps = UINT64_MAX;
 
 static uint32_t solve_within(void)
@@ -100,15 +100,26 @@ static uint32_t check(void)
     return pgboard_check(&it, &solution, &report);
 }
 
-static uint32_t solve_known(void)
+static uint32_t solve_from(int is_within)
 {
     struct pgboard_game it = arrays_of();
     struct pgboard_solution known =
         solution_of(game.known_winners, game.known_len, game.known_choices, game.known_choices_len);
     struct pgboard_results results = results_of(), same = results;
     report.at = report.to = 99;
-    uint32_t answer = pgboard_solve_known(&it, &known, &results, &report);
+    uint32_t answer = is_within ? pgboard_solve_known_within(&it, &known, steps, &results, &report)
+                                : pgboard_solve_known(&it, &known, &results, &report);
     return memcmp(&results, &same, sizeof same) == 0 ? answer : 99;
+}
+
+static uint32_t solve_known(void)
+{
+    return solve_from(0);
+}
+
+static uint32_t solve_known_within(void)
+{
+    return solve_from(1);
 }
 
 /* Whether a call has this answer and reports this, and has changed nothing else. */
@@ -121,7 +132,7 @@ static int refuses(uint32_t (*call)(void), uint32_t answer, uint64_t at, uint64_
 static int all_refuse(uint32_t answer, uint64_t at, uint64_t to)
 {
     return refuses(solve, answer, at, to) && refuses(solve_within, answer, at, to) && refuses(check, answer, at, to) &&
-           refuses(solve_known, answer, at, to);
+           refuses(solve_known, answer, at, to) && refuses(solve_known_within, answer, at, to);
 }
 
 /* Even owns 0 and may stay there or go to 1; Odd owns 1 and stays. Even wins 0, Odd wins 1. */
@@ -227,10 +238,13 @@ static int known(unsigned first, uint32_t choice, unsigned second, uint32_t othe
     game.known_winners[0] = (uint8_t)first, game.known_choices[0] = choice;
     game.known_winners[1] = (uint8_t)second, game.known_choices[1] = other;
     if (answer != PGBOARD_OK)
-        return refuses(solve_known, answer, at, to);
-    memset(game.winners, 77, sizeof game.winners);
-    memset(game.choices, 77, sizeof game.choices);
-    int solved = solve_known() == PGBOARD_OK && report.at == 0 && report.to == 0;
+        return refuses(solve_known, answer, at, to) && refuses(solve_known_within, answer, at, to);
+    int solved = 1;
+    for (int is_within = 0; is_within < 2; is_within++) {
+        memset(game.winners, 77, sizeof game.winners);
+        memset(game.choices, 77, sizeof game.choices);
+        solved = solved && solve_from(is_within) == PGBOARD_OK && report.at == 0 && report.to == 0;
+    }
     return solved && game.winners[0] == 0 && game.winners[1] == 1 && game.winners[2] == 77 && game.choices[0] == 0 &&
            game.choices[1] == 1 && game.choices[2] == 77u * 0x01010101u && refuses(check, PGBOARD_OK, 0, 0);
 }
@@ -257,6 +271,11 @@ static void takes_what_is_known(void)
     set(2, "01", priorities, starts, targets);
     EXPECT(known(0, 0, 1, 0, PGBOARD_KNOWN_LOST, 1, 0));
     EXPECT(known(open, none, 1, 0, PGBOARD_KNOWN_LEAVES, 1, 0));
+    /* what is wrong with Even's vertices comes first, also before a choice of Odd that is wrong */
+    static const uint32_t odd_priorities[] = {1, 1}, loops[] = {0, 1};
+    set(2, "01", odd_priorities, starts, loops);
+    EXPECT(known(0, 0, 1, none, PGBOARD_KNOWN_CYCLE, 0, 0));
+    EXPECT(known(open, none, 1, none, PGBOARD_KNOWN_CHOICE, 1, 0));
 }
 
 /* Even wins by both ways from vertex 0, and keeps the one that is known. */
@@ -269,6 +288,23 @@ static void keeps_a_known_choice(void)
         game.known_choices[0] = way, game.known_choices[way] = 0;
         EXPECT(solve_known() == PGBOARD_OK && game.choices[0] == way && refuses(check, PGBOARD_OK, 0, 0));
     }
+}
+
+/* Five vertices that no search before the recursion settles; all that is known is settled without a step. */
+static void gives_up_from_what_is_known(void)
+{
+    static const uint32_t priorities[] = {0, 4, 2, 3, 5}, starts[] = {0, 1, 2, 4, 5, 7}, targets[] = {4, 4, 3, 2, 2, 1, 0};
+    set(5, "11100", priorities, starts, targets);
+    steps = 0;
+    EXPECT(refuses(solve_known_within, PGBOARD_GAVE_UP, 0, 0));
+    /* what is known is judged first */
+    game.known_winners[1] = 1, game.known_choices[1] = 0;
+    EXPECT(refuses(solve_known_within, PGBOARD_KNOWN_CHOICE, 1, 0));
+    game.known_winners[1] = PGBOARD_NO_WINNER;
+    EXPECT(solve_known() == PGBOARD_OK);
+    memcpy(game.known_winners, game.winners, 5), memcpy(game.known_choices, game.choices, 5 * sizeof *game.choices);
+    EXPECT(solve_known_within() == PGBOARD_OK && refuses(check, PGBOARD_OK, 0, 0));
+    steps = UINT64_MAX;
 }
 
 static void refuses_games(void)
@@ -579,7 +615,7 @@ static void refuses_long_lists(void)
 static void refuses_memory(void)
 {
     uint8_t into[64];
-    long refused[7] = {0};
+    long refused[8] = {0};
     for (long n = 1; n < 200; n++) {
         two();
         allowed = n;
@@ -601,9 +637,11 @@ static void refuses_memory(void)
         game.known_winners[0] = 0, game.known_choices[0] = 0;
         allowed = n;
         refused[5] += refuses(solve_known, PGBOARD_MEMORY, 0, 0);
+        allowed = n;
+        refused[7] += refuses(solve_known_within, PGBOARD_MEMORY, 0, 0);
         allowed = -1;
     }
-    for (int k = 0; k < 7; k++)
+    for (int k = 0; k < 8; k++)
         EXPECT(1 < refused[k] && refused[k] < 190);
 }
 
@@ -663,6 +701,7 @@ int main(void)
     refuses_solutions();
     takes_what_is_known();
     keeps_a_known_choice();
+    gives_up_from_what_is_known();
     tells_versions_and_texts();
     takes_texts();
     refuses_texts();

@@ -158,6 +158,10 @@ static void answers()
     EXPECT(within && within.answer == PGBOARD_OK && within.value.winners == pgboard::solve(five).winners && within.value.choices == pgboard::solve(five).choices);
     EXPECT(pgboard::solve_within(five, more + 1).winners == within.value.winners);
     EXPECT(pgboard::try_solve_within(pgboard::game{{}, {}, {0}, {}}, more).answer == PGBOARD_NO_VERTEX);
+    const pgboard::solution nothing{std::vector<std::uint8_t>(5, PGBOARD_NO_WINNER), std::vector<std::uint32_t>(5)};
+    EXPECT(pgboard::try_solve_within(five, nothing, 0).answer == PGBOARD_GAVE_UP);
+    EXPECT(pgboard::try_solve_within(five, nothing, more).value.winners == within.value.winners);
+    EXPECT(pgboard::solve_within(five, within.value, 0).winners == within.value.winners);
     // a verdict that is negative
     const auto verdict = pgboard::try_check(two, pgboard::solution{{0, 1}, {1, 1}});
     EXPECT(!verdict && verdict.answer == PGBOARD_LEAVES && verdict.report.at == 0 && verdict.report.to == 1);

@@ -18,6 +18,7 @@ TYPE_CHECKING = False
 if TYPE_CHECKING:
     from .calls import *  # noqa: F401,F403
     from .calls import __all__  # noqa: F401
+    from .faults import *  # noqa: F401,F403
 
 
 def __getattr__(name: str) -> object:

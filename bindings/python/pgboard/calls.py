@@ -22,7 +22,7 @@ from .version import __version__
 
 __all__ = [
     "NO_CHOICE", "NO_WINNER", "Board", "Buffer", "Cancel", "Entries", "Entry", "Posted", "Solution", "__version__", "read_game", "solve", "solve_csr",
-    "solve_file", "solve_graph", "solve_text", "tidy_text", "verify", "verify_csr", "verify_text", *faults.__all__,
+    "solve_file", "solve_graph", "solve_text", "tidy_text", "verify", "verify_csr", "verify_text", *faults.NAMES,
 ]  # fmt: skip
 
 
@@ -48,15 +48,13 @@ def solve_csr(
 
     `known` has winners (NO_WINNER where there is none) and choices in the same form. `steps` bounds
     Zielonka's recursion, which has an exponential bound: GaveUp is raised if it begins more
-    subgames. There may not be both. With `dead_ends` a vertex without successors is lost by its owner. With
+    subgames. With `dead_ends` a vertex without successors is lost by its owner. With
     `least` the least priority that is seen again and again decides.
 
     Raises TimedOut before a slice that would begin after `timeout` seconds, and Cancelled once another
     thread calls `cancel.cancel()`. Raises Refused, NotKnown or OutOfMemory too, and TypeError for other
     arguments.
     """
-    if known is not None and steps is not None:
-        raise TypeError("known and steps can't be given together")
     number, limits = bound(steps), limits_of(timeout, cancel)
     game = owned(game_views(owners, priorities, indptr, indices, dead_ends, least))
     claims = None if known is None else owned(claim_views(*pair_of(known)))

@@ -2,18 +2,6 @@
 
 from __future__ import annotations
 
-from typing import Dict, Type
-
-__all__ = [
-    "Fault", "Refused", "NotASolution", "NotKnown", "BadText", "OutOfMemory",
-    "BadLengths", "BadRow", "BadOwner", "BadPriority", "BadResults", "BadWinner", "MissingAttribute",
-    "NoVertex", "TooManyVertices", "SpecifiedTwice", "NoSuccessor", "TooManyEdges", "UnknownSuccessor",
-    "NoChoice", "BadChoice", "Leaves", "BadCycle", "KnownChoice", "KnownCycle", "KnownLost", "KnownLeaves",
-    "TextTooLong", "NoToken", "NotExpected", "NumberTooLarge", "NoPlayer", "Stranger", "WrittenTwice", "NotWritten",
-    "Closed", "Unsettled", "RefusedClaim", "BadPlayer", "BadClaimLengths", "BadShape", "ClaimCycle", "Lost", "Stale", "Open",
-    "GaveUp", "TimedOut", "Cancelled",
-]  # fmt: skip
-
 # the arrays by the numbers of include/pgboard.h
 ARRAYS = {1: "priorities", 2: "starts of rows", 3: "successors", 4: "winners", 5: "choices"}
 
@@ -236,7 +224,7 @@ class Cancelled(Fault):
 # The exception of each answer of include/pgboard.h, as tools/faults makes it. Four are never handed on: the size of
 # a struct (9), a board that is open (70) and the number of an entry (72), which are right here, and a buffer that is too small (50), which
 # is asked for again.
-FAULTS: Dict[int, Type[Fault]] = {
+FAULTS: dict[int, type[Fault]] = {
     1: OutOfMemory,
     2: BadLengths,
     3: BadRow,
@@ -283,3 +271,6 @@ FAULTS: Dict[int, Type[Fault]] = {
     86: Open,
     90: GaveUp,
 }
+
+# what the package has of this module
+NAMES = [name for name, it in [*globals().items()] if isinstance(it, type) and issubclass(it, Fault)]

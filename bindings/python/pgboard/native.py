@@ -12,6 +12,7 @@ EXPORTS = {
     "pgboard_solve": "ppp",
     "pgboard_solve_within": "pnpp",
     "pgboard_solve_known": "pppp",
+    "pgboard_solve_known_within": "ppnpp",
     "pgboard_check": "ppp",
     "pgboard_tidy_text": "pnpnpp",
     "pgboard_verify_text": "pnpnp",

@@ -22,7 +22,7 @@ def blank(size: int) -> Solution:
 
 
 def solve_arrays(game: list[Ints], known: list[Ints] | None, steps: int | None, limits: Limits) -> Solution:
-    """A solution of a game, from what is known of it, or by a recursion of so many steps."""
+    """A solution of a game, from what is known of it, by a recursion of so many steps at most."""
     given = [game] if known is None else [game, known]
     if sum([len(it) * it.itemsize for group in given for it in group]) <= SMALL:
         check(limits)
@@ -44,11 +44,9 @@ def solve_arrays(game: list[Ints], known: list[Ints] | None, steps: int | None, 
 def at_once(given: Sequence[Sequence[Ints]], steps: int | None) -> Solution:
     """The solution by one call, which can't be ended."""
     found = blank(len(given[0][0]))
-    structs = [struct_of(it) for it in (*given, found)]
-    if steps is None:
-        run("pgboard_solve" if len(given) == 1 else "pgboard_solve_known", *structs)
-    else:
-        run("pgboard_solve_within", structs[0], steps, structs[1])
+    name = "pgboard_solve" if len(given) == 1 else "pgboard_solve_known"
+    limit = [] if steps is None else [steps]
+    run(name + "_within" * len(limit), *map(struct_of, given), *limit, struct_of(found))
     return found
 
 

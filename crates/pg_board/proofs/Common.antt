@@ -44,7 +44,7 @@ pub use Rattle.pg_dominion.proofs.Named.{choice-back, choice-front, named-append
 pub use Rattle.pg_dominion.proofs.Rows.{named-push, named_right}
 pub use Rattle.pg_dominion.specs.Attraction.{IsAttractedRow, IsAttraction}
 pub use Rattle.pg_dominion.specs.Checked.{claim_rows}
-pub use Rattle.pg_dominion.specs.Claim.{AreRight, ClaimRows, IsGoodIn, IsRightRow, IsSound, choice_in, named}
+pub use Rattle.pg_dominion.specs.Claim.{AreRight, ClaimRows, IsGoodIn, IsRightRow, IsSound, choice_in, named, row_at, vertices}
 pub use Rattle.pg_dominion.specs.Fault.{IsClaimFault}
 pub use Rattle.pg_dominion.specs.declared.claim.Claim.{Claim}
 pub use Rattle.pg_finders.proofs.SolvedSubgames.{choice_leads, kept_same}
@@ -62,5 +62,5 @@ pub use Rattle.pg_board.specs.declared.journal.Refusal.{Refusal}
 pub use Rattle.pg_board.specs.declared.regions.Regions.{Regions}
 pub use Rattle.pg_board.specs.declared.regions.VertexState.{VertexState}
 pub use Rattle.pg_board.specs.private.WrittenRows.{HasWritten, open_before}
-pub use Rattle.pg_board.specs.private.OpenEdges.{EndsOutside, IsFirstOutside, LeadsOutside}
+pub use Rattle.pg_board.specs.private.OpenEdges.{EndsOutside}
 pub use Rattle.pg_board.specs.private.Regions.{AreRegions, IsBoard, state_with, table_state}

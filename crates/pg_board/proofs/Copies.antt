@@ -11,7 +11,7 @@ module _ (g : Graph) (game : IsGame g) (st : State) (lawful : IsLawfulState g st
   closed : (v w : ℕ) → KeptEdge g p (named rows) (choice_in rows) v w → In (union (named rows) (settled st p)) w
   closed v w (i, m) = elim (kept_leads g p (choice_in rows) v w m) [
     | inl (o, n) ↦
-        (let c = (named_right g p rows v good.shape.right.each i).own o in
+        (let c = (named_right g p rows v good.sound.shape.right.each i).own o in
         let e : choice_in rows v ≡ Some w = c.1 ∙ ap (λ x. Some x) (choice_leads (choice_in rows v) c.0 w c.1 n) in
         or_left (named rows w) (settled st p w) (good.closed v w (i, m) (good.choices v w i e)))
     | inr (o, n) ↦
@@ -27,4 +27,4 @@ module _ (g : Graph) (game : IsGame g) (st : State) (lawful : IsLawfulState g st
 
 pub dominion_now : (g : Graph) → IsGame g → (j : Journal) → IsLawful g j → (p : Player) (rows : ClaimRows)
     → IsGoodIn g (unsettled g (state_of j)) p rows → IsDominionAfter g j (length j) p rows
-dominion_now g game j lawful p rows good = search (rules, take-length, lawful_now, good.shape, good.vertices, good.good, closed)
+dominion_now g game j lawful p rows good = search (rules, take-length, lawful_now, good.sound, good.vertices, closed)

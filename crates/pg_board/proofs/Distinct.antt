@@ -1,12 +1,12 @@
 -- No vertex is in two rows.
 use Rattle.pg_board.proofs.Common.{rules, ◌≡◌, ℕ, Bool, true, false, List, [], ◌∷◌, ◌++◌, refl, sym, subst, All, IsDistinct, map-append, All-weaker}
-use Rattle.pg_board.proofs.Common.{All-from_get_or, All-from_recursion, recursion_from_All, ClaimRows, named, is_unsettled, Journal, state_of}
+use Rattle.pg_board.proofs.Common.{row_at}
+use Rattle.pg_board.proofs.Common.{All-from_get_or, All-from_recursion, recursion_from_All, ClaimRows, named, is_unsettled, Journal, state_of, vertices}
 use Rattle.std.specs.Prelude.{Option, nat_eq, flat_map, None}
 use Rattle.std.proofs.lemmas.Bool.{ne_eqb}
 use Rattle.std.proofs.lemmas.Map.Keys.{IsDistinct-cons, IsDistinct-head, IsDistinct-tail}
 use Rattle.std.proofs.lemmas.List.Elements.{All-nil, All-head, All-tail, All-append, All-map}
-use Rattle.pg_board.proofs.RestIsGood.{vertices}
-use Rattle.pg_board.proofs.Places.{row_at, named_at}
+use Rattle.pg_dominion.proofs.RowsByPlace.{named_at}
 
 abbrev pub AllRows : Journal → ClaimRows
 AllRows journal = flat_map (λ e. e.rows) journal

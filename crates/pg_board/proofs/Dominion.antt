@@ -37,11 +37,11 @@ module _ (g : Graph) (st : State) (lawful : IsLawfulState g st) (p : Player) (ro
     old = lawful.regions p;
     rest = λ v i. (and_parts (nat_lt v (length g)) (is_unsettled (st v)) (d.vertices v i)).0;
     attracted = λ v i. absurd (cc i);
-    rest_choices = λ v i o. search (rules, (named_right g p rows v d.shape.right.each i).own, named_right, d.shape.right.each);
+    rest_choices = λ v i o. search (rules, (named_right g p rows v d.sound.shape.right.each i).own, named_right, d.sound.shape.right.each);
     attracted_choices = λ v i o. absurd (cc i);
     rest_closed = λ v w i m. or_cases (named rows w) (settled st p w) (d.closed v w (as_claim v w i m));
     attracted_falls = λ v w i m. absurd (cc i);
-    rest_good = λ walk c. search (rules, d.good, ClosedWalk-weaker, as_claim);
+    rest_good = λ walk c. search (rules, d.sound.good, ClosedWalk-weaker, as_claim);
     keeps_old = λ v i. search (rules, false_from_ne_true, claim_open, settled_shut);
     rest_new = λ v i. open_unsettled p (st v) (claim_open v i);
     attracted_new = λ v i. absurd (cc i);
@@ -80,4 +80,4 @@ module _ (g : Graph) (journal : Journal) (lawful : IsLawful g journal) (k : ℕ)
   stays_closed v w (i, m) = search (rules, or_cases, d.1.closed, in_rest, ours_or_open, or_left, or_right, still)
 
   pub dominion_good : 0 < length (rest_of now rows) → IsGoodOn g now p rows
-  dominion_good some = search (rules, d.1.shape, d.1.good, never_lost, stays_closed)
+  dominion_good some = search (rules, d.1.sound, never_lost, stays_closed)

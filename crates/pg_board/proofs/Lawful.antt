@@ -1,9 +1,8 @@
 -- A lawful journal with an entry that answers a good claim is lawful.
 use Rattle.pg_board.proofs.Common.{rules, ◌≡◌, ℕ, zero, suc, ◌≤◌, ◌⊎◌, inl, inr, [], ◌∷◌, ◌++◌, length, take, refl, sym, ◌∙◌, ap, subst, arith, Some, slice_get}
 use Rattle.pg_board.proofs.Common.{nat_eq, IsDistinct, take-append-le, append-nil, map-append, slice_get_within, take-length, Player, Graph, ClaimRows, Entry}
-use Rattle.pg_board.proofs.Common.{State, IsGoodOn, is_unsettled, Journal, state_of, claimed_rows, Answers, IsLawful}
+use Rattle.pg_board.proofs.Common.{State, IsGoodOn, is_unsettled, Journal, state_of, claimed_rows, Answers, IsLawful, vertices}
 use Rattle.std.proofs.lemmas.Grind.{flat_map-append}
-use Rattle.pg_board.proofs.RestIsGood.{vertices}
 use Rattle.pg_board.proofs.Distinct.{AllRows, distinct-append, each_settled}
 use Rattle.pg_board.proofs.PushedEntry.{IsAdded, lawful_state, own_claim_good, own_claim_answered, once_rows, each_open}
 

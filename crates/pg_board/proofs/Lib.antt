@@ -6,7 +6,6 @@ pub mod Dominion
 pub mod Numbers
 pub mod UnsettledNumber
 pub mod Copies
-pub mod Places
 pub mod OwnEntries
 pub mod Slices
 pub mod OpeningState

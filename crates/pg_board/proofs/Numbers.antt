@@ -1,17 +1,18 @@
 -- How many vertices a lawful journal settles: at most all, and all exactly where it is full. The same with rows beside it.
 use Rattle.pg_board.proofs.Common.{rules, ◌≡◌, ℕ, ◌+◌, ◌<◌, ◌≤◌, true, false, not, List, [], ◌∷◌, ◌++◌, length, take, refl, sym, ◌∙◌, ap, subst, arith}
-use Rattle.pg_board.proofs.Common.{ltb-true, length-append, get_or, Option, Some, None, ◌==◌, nat_eq, list_any, nat_eq_equiv, eqb-true, eq-eqb}
+use Rattle.pg_board.proofs.Common.{ltb-true, length-append, get_or, Option, Some, None, ◌==◌, nat_eq, list_any, nat_eq_equiv, eqb-true, vertices}
 use Rattle.pg_board.proofs.Common.{false_from_ne_true, length-map, map-append, IsDistinct-push, length-le_from_distinct_below, take-length, Player, Graph}
 use Rattle.pg_board.proofs.Common.{is_same, ClaimRows, named, Entry, is_winner, is_unsettled, IsLawfulState, Journal, state_of, IsLawful, number_settled}
-use Rattle.pg_board.proofs.Common.{settled_by, IsDistinct, IsFull, or_cases}
+use Rattle.pg_board.proofs.Common.{settled_by, IsDistinct, IsFull, or_cases, Regions, IsBoard}
+use Rattle.pg_board.specs.Board.{IsLawfulBoard}
 use Rattle.std.proofs.lemmas.Bool.{true_from_ne_false}
 use Rattle.std.proofs.lemmas.List.Sums.{sum_by_more_le}
 use Rattle.std.proofs.lemmas.List.Filters.{sum_by-filter_both}
 use Rattle.std.proofs.lemmas.List.Folds.{list_any-append}
 use Rattle.std.proofs.lemmas.List.Concat.{length-flat_map}
 use Rattle.std.proofs.lemmas.Map.Steps.{le-length_from_below}
-use Rattle.pg_board.proofs.RestIsGood.{vertices}
 use Rattle.pg_board.proofs.Distinct.{AllRows, distinct-append, each_settled, each_named}
+use Rattle.pg_dominion.proofs.RowsByPlace.{in_vertices}
 
 pub lawful_now : (g : Graph) (j : Journal) → IsLawful g j → IsLawfulState g (state_of j)
 lawful_now g j lawful = subst (λ xs. IsLawfulState g (state_of xs)) (take-length j) (lawful.states (length j) (omega arith))
@@ -21,10 +22,6 @@ settled_list j = vertices (AllRows j)
 
 pub number_is : (j : Journal) → number_settled j ≡ length (settled_list j)
 number_is j = sym (length-map (AllRows j) (λ (r : ℕ × Option ℕ). r.0) ∙ length-flat_map (λ (e : Entry). e.rows) j)
-
-pub in_vertices : (rows : ClaimRows) (v : ℕ) → list_any (nat_eq v) (vertices rows) ≡ named rows v
-in_vertices [] v = refl
-in_vertices (r ∷ rows) v = search (rules, in_vertices rows v, eq-eqb, eqb-true)
 
 -- the rows name the settled vertices
 pub settled_vertices : (j : Journal) (v : ℕ) → list_any (nat_eq v) (settled_list j) ≡ not (is_unsettled (state_of j v))
@@ -58,6 +55,10 @@ module _ (g : Graph) (j : Journal) (lawful : IsLawful g j) where
 
   pub number_from_full : IsFull g (state_of j) → number_settled j ≡ length g
   number_from_full full = search (rules, le-length_from_below, settled_vertices, number_within, number_is)
+
+-- what a board stores is a lawful board
+pub lawful_board : (g : Graph) (j : Journal) (r : Regions) (n : ℕ) → IsBoard g j r n → IsLawfulBoard (record { graph = g; journal = j })
+lawful_board g j r n b = record { game = b.game; limits = b.limits; lawful = b.lawful; within = number_within g j b.lawful }
 
 -- what one worker's entries settle so far, with one more entry
 pub more_settled_by : (j : Journal) (worker i : ℕ) (e : Entry) → i < length j → e ≡ get_or j i e

@@ -1,25 +1,25 @@
 -- An entry that answers a good claim leaves a lawful state.
-use Rattle.pg_board.proofs.Common.{rules, ◌≡◌, ℕ, true, false, inl, inr, List, [], ◌∷◌, ◌++◌, length, refl, sym, ◌∙◌, ap, subst, arith, lt-ltb, ltb-true}
-use Rattle.pg_board.proofs.Common.{append_assoc, Contains, All, IsDistinct, eqb-true, false_from_ne_true, or_cases, or_right, take-append-drop, append-nil}
-use Rattle.pg_board.proofs.Common.{map-append, nat_eq_equiv, IsDistinct-push, sorted_from_strictly_increasing, below_from_sorted, IsStrictlyIncreasing}
+use Rattle.pg_board.proofs.Common.{rules, ◌≡◌, ℕ, true, false, inl, inr, [], ◌∷◌, ◌++◌, length, refl, sym, ◌∙◌, ap, subst, lt-ltb, ltb-true}
+use Rattle.pg_board.proofs.Common.{append_assoc, Contains, All, IsDistinct, false_from_ne_true, or_cases, or_right, take-append-drop, append-nil}
+use Rattle.pg_board.proofs.Common.{map-append, nat_eq_equiv, IsDistinct-push}
 use Rattle.pg_board.proofs.Common.{and-true, and-false, or-false, Player, Even, Odd, opponent, Graph, IsGame, HasEdge, owner_of, edge_inside, some_edge}
 use Rattle.pg_board.proofs.Common.{VertexSet, In, all_vertices, union, Choices, kept, KeptEdge, IsSubgame, Attractor, IsRegion, ClosedWalk-weaker}
 use Rattle.pg_board.proofs.Common.{Attractor-idempotent, grown_region, own_or_other, not_own, same_is, is_same, not_same, ClaimRows, named, choice_in}
 use Rattle.pg_board.proofs.Common.{IsRightRow, IsAttractedRow, named-append, choice-front, choice-back, place_of, named_right, kept_same, choice_leads, Entry}
-use Rattle.pg_board.proofs.Common.{is_winner, choice_in_row, State, settled, choices, is_unsettled, rest_of, IsGoodOn, IsLawfulState, Journal}
+use Rattle.pg_board.proofs.Common.{is_winner, choice_in_row, State, settled, choices, is_unsettled, rest_of, IsGoodOn, IsLawfulState, Journal, vertices}
 use Rattle.pg_board.proofs.Common.{state_of, claimed_rows, attracted_rows, Answers, IsLawful}
 use Rattle.std.specs.Prelude.{Option, Some, None, nat_eq, if◌then◌else◌}
 use Rattle.std.proofs.lemmas.Bool.{or_parts}
-use Rattle.std.proofs.lemmas.Map.Keys.{IsDistinct-from_apart}
 use Rattle.pg_board.proofs.Distinct.{distinct-append, each_named}
 use Rattle.pg_game.specs.Kept.{option_list}
 use Rattle.pg_game.proofs.GrownRegions.{Grows}
 use Rattle.pg_game.proofs.LeftSubgame.{rest_is_subgame}
 use Rattle.pg_dominion.proofs.Named.{rank, rank_below, rank_at}
-use Rattle.pg_board.proofs.RestIsGood.{vertices, in_rest, rest_is_good, rest_twice, named_rest, choice_rest}
+use Rattle.pg_board.proofs.RestIsGood.{in_rest, rest_is_good, rest_twice, named_rest, choice_rest}
 use Rattle.pg_board.proofs.NoRowOfOpponent.{differs, avoid}
 use Rattle.pg_board.proofs.OpeningState.{none_distinct}
-use Rattle.pg_board.proofs.Numbers.{in_vertices, lawful_now}
+use Rattle.pg_dominion.proofs.RowsByPlace.{in_vertices, distinct_rising}
+use Rattle.pg_board.proofs.Numbers.{lawful_now}
 
 -- what one entry says of a vertex
 abbrev pub entry_state : Entry → State
@@ -39,9 +39,6 @@ settled_shut q o h = search rules
 pub neither_open : (p : Player) (o : Option (Player × Option ℕ)) → is_winner p o ≡ false → is_winner (opponent p) o ≡ false
     → is_unsettled o ≡ true
 neither_open p o a b = search rules
-
-pub distinct_rising : (xs : List ℕ) → IsStrictlyIncreasing xs → IsDistinct nat_eq xs
-distinct_rising xs h = grind (arith, IsDistinct-from_apart, false_from_ne_true, below_from_sorted, sorted_from_strictly_increasing, eqb-true)
 
 -- a region with other choices that agree on it
 pub region_same : (g : Graph) (p : Player) (X : VertexSet) (s t : Choices) → ((v : ℕ) → In X v → t v ≡ s v) → IsRegion g p X s → IsRegion g p X t
@@ -124,7 +121,7 @@ module _ {g : Graph} {j : Journal} {p : Player} {rows : ClaimRows} {e : Entry} (
       search (rules, (attracted_new v i).1, attracted_new, split, choice-back, place_of, named-append, state_push, neither_open, not_theirs, or_right)
 
   right : (v : ℕ) → In (named R) v → IsRightRow g p (v, choice_in R v)
-  right v i = named_right g p R v own_good.shape.right.each i
+  right v i = named_right g p R v own_good.sound.shape.right.each i
 
   -- where a kept edge of an attracted vertex ends
   falls_to : (v w : ℕ) (i : In (named A) v) → Contains (kept g p (choices st') v) w
@@ -153,7 +150,7 @@ module _ {g : Graph} {j : Journal} {p : Player} {rows : ClaimRows} {e : Entry} (
       | inl h ↦ inl (or_cases (settled st p w) (named R w) h)
       | inr n ↦ inr (search (rules, place_of, named-append, rank, rank_below, rank_at))
     ];
-    rest_good = λ walk c. own_good.good walk (ClosedWalk-weaker (KeptEdge g p (named R) (choices st')) (KeptEdge g p (named R) (choice_in R))
+    rest_good = λ walk c. own_good.sound.good walk (ClosedWalk-weaker (KeptEdge g p (named R) (choices st')) (KeptEdge g p (named R) (choice_in R))
         (λ v w k. kept_same g p (named R) (choice_in R) (choices st') v w (claimed_choice v k.0) k.0 k.1) walk c);
     keeps_old = λ v i. ap choice_in_row (old_state v (settled_shut p (st v) i));
     rest_new = λ v i. open_unsettled p (st v) (claimed_open v i);
@@ -217,7 +214,7 @@ module _ {g : Graph} {j : Journal} {p : Player} {rows : ClaimRows} {e : Entry} (
   pub once_rows : IsDistinct nat_eq (vertices e.rows)
   once_rows = subst (IsDistinct nat_eq) (sym (ap vertices split ∙ map-append (λ (x : ℕ × Option ℕ). x.0) R A))
       (distinct-append (named A) (vertices R) (vertices A)
-      (distinct_rising (vertices R) own_good.shape.right.rising)
+      (distinct_rising (vertices R) own_good.sound.shape.right.rising)
       (all_done [] A refl none_distinct)
       (each_named (λ v. named A v ≡ false) R (λ v i. false_from_ne_true (named A v) (λ a. (let h = (attracted_new v a).1 in cc (i, h)))))
       (each_named (λ v. named A v ≡ true) A (λ v i. i)))

@@ -1,11 +1,10 @@
 -- The rest of a claim is a claim that is as good.
 use Rattle.pg_board.proofs.Common.{rules, ◌≡◌, ℕ, true, ◌&&◌, [], ◌∷◌, refl, sym, ◌∙◌, subst, eqb-true, and_parts, and-false, All-from_recursion}
 use Rattle.pg_board.proofs.Common.{recursion_from_All, Player, Graph, In, union, KeptEdge, ClosedWalk-weaker, ClaimRows, named, choice_in, AreRight, kept_same}
-use Rattle.pg_board.proofs.Common.{State, is_unsettled, rest_of, settled, IsGoodOn}
+use Rattle.pg_board.proofs.Common.{vertices, State, is_unsettled, rest_of, settled, IsGoodOn}
 use Rattle.std.specs.Prelude.{filter}
 use Rattle.std.proofs.lemmas.List.Kept.{IsStrictlyIncreasing-filter}
 use Rattle.std.proofs.lemmas.List.Elements.{All-filter}
-pub use Rattle.pg_dominion.specs.Claim.{vertices}
 
 open_rows : (st : State) (rows : ClaimRows) → vertices (rest_of st rows) ≡ filter (λ v. is_unsettled (st v)) (vertices rows)
 open_rows st [] = refl
@@ -44,11 +43,13 @@ rest_right g p st rows a = search (rules, recursion_from_All, All-filter, All-fr
 -- where a claim may be posted, so may its rest as a claim of its own
 pub rest_is_good : (g : Graph) (st : State) (p : Player) (rows : ClaimRows) → IsGoodOn g st p rows → IsGoodOn g st p (rest_of st rows)
 rest_is_good g st p rows h = record {
-  shape = search (rules, h.not_stale, rest_right, h.shape.right);
-  good =
-      λ walk c. h.good walk (ClosedWalk-weaker (KeptEdge g p (named (rest_of st rows)) (choice_in (rest_of st rows)))
-      (KeptEdge g p (named rows) (choice_in rows))
-      (λ v w k. let k' = kept_rest g p st rows v w k in ((in_rest st rows v k'.0).0, k'.1)) walk c);
+  sound = record {
+    shape = search (rules, h.not_stale, rest_right, h.sound.shape.right);
+    good =
+        λ walk c. h.sound.good walk (ClosedWalk-weaker (KeptEdge g p (named (rest_of st rows)) (choice_in (rest_of st rows)))
+        (KeptEdge g p (named rows) (choice_in rows))
+        (λ v w k. let k' = kept_rest g p st rows v w k in ((in_rest st rows v k'.0).0, k'.1)) walk c);
+  };
   not_lost = λ v i. h.not_lost v (in_rest st rows v i).0;
   not_stale = rw (rest_twice st rows) h.not_stale;
   closed = λ v w k.

@@ -1,29 +1,23 @@
 -- How many vertices are unsettled, and that a call gives up only under a limit below the most steps that they take.
-use Rattle.pg_board.proofs.Common.{◌≡◌, ◌≤◌, ◌<◌, ◌+◌, ◌-◌, ℕ, zero, suc, Bool, true, false, not, inl, inr, List, [], ◌∷◌, length, refl, sym, ◌∙◌, ap, arith}
-use Rattle.pg_board.proofs.Common.{rules, length-set, eq-eqb, nat_eq, cases_lt, and-false, Option, None, Some, if◌then◌else◌, IsDistinct, recursion_from_All}
-use Rattle.pg_board.proofs.Common.{Graph, members, unsettled, is_unsettled, state_of, Journal, IsLawful, number_settled, named, BoardRecord}
-use Rattle.std.specs.Prelude.{slice_set, IsSome}
+use Rattle.pg_board.proofs.Common.{◌≡◌, ◌≤◌, ◌<◌, ◌+◌, ℕ, zero, suc, Bool, true, false, inl, inr, List, [], ◌∷◌, length, refl, sym, ◌∙◌, ap, arith}
+use Rattle.pg_board.proofs.Common.{rules, length-set, eq-eqb, nat_eq, cases_lt, and-false, Option, None, Some, IsDistinct, recursion_from_All}
+use Rattle.pg_board.proofs.Common.{members, unsettled, is_unsettled, state_of, IsLawful, number_settled, named, BoardRecord}
+use Rattle.std.specs.Prelude.{slice_set}
 use Rattle.std.specs.List.{AllByRecursion}
 use Rattle.std.proofs.lemmas.List.{get_or-set_other}
-use Rattle.std.proofs.lemmas.List.Sums.{sum_by-append}
+use Rattle.std.proofs.lemmas.List.Sums.{count_by-le-length, sum_by-append}
 use Rattle.std.proofs.lemmas.Map.Keys.{IsDistinct-head, IsDistinct-tail}
-use Rattle.pg_finders.specs.Steps.{size, steps}
-use Rattle.pg_finders.proofs.Sizes.{size_below}
+use Rattle.pg_game.specs.VertexSet.{how_many}
+use Rattle.pg_finders.specs.Steps.{steps}
+use Rattle.pg_finders.proofs.Masks.{counted, how_many-set}
 use Rattle.pg_board.specs.Finish.{IsContinued, MayGiveUp, number_unsettled}
 use Rattle.pg_board.proofs.Distinct.{AllRows, each_named}
-use Rattle.pg_board.proofs.Numbers.{settled_list, number_is, in_vertices, settled_vertices, below}
+use Rattle.pg_dominion.proofs.RowsByPlace.{in_vertices}
+use Rattle.pg_board.proofs.Numbers.{settled_list, number_is, settled_vertices, below}
 
 -- the vertex has a place in the mask, and is not in it
 abbrev Free : List Bool → ℕ → Type 0
 Free mask v = (v < length mask) × (members mask v ≡ false)
-
-abbrev one : Bool → ℕ
-one b = if b then 1 else 0
-
-size_set : (mask : List Bool) (v : ℕ) → Free mask v → size (slice_set mask v true) ≡ size mask + 1
-size_set [] v f = absurd (omega (arith, f.0))
-size_set (b ∷ bs) zero f = let e : one b ≡ 0 = rw f.1 refl in omega (arith, e)
-size_set (b ∷ bs) (suc v) f = let h = size_set bs v (omega (arith, f.0), f.1) in omega (arith, h)
 
 still_free : (mask : List Bool) (v w : ℕ) → nat_eq v w ≡ false → Free mask w → Free (slice_set mask v true) w
 still_free mask v w apart f =
@@ -36,16 +30,17 @@ all_free mask v [] a f = tt
 all_free mask v (w ∷ ws) a f = (still_free mask v w a.0 f.0, all_free mask v ws a.1 f.1)
 
 -- distinct vertices beside those of a mask
-beside : (vs : List ℕ) (mask : List Bool) → IsDistinct nat_eq vs → AllByRecursion (Free mask) vs → length vs + size mask ≤ length mask
-beside [] mask d f = let h = size_below mask in omega (arith, h)
+beside : (vs : List ℕ) (mask : List Bool) → IsDistinct nat_eq vs → AllByRecursion (Free mask) vs → length vs + how_many mask ≤ length mask
+beside [] mask d f = omega (arith, count_by-le-length (λ b. b) mask)
 beside (v ∷ vs) mask d f =
     let more = beside vs (slice_set mask v true) (IsDistinct-tail nat_eq v vs d) (all_free mask v vs (IsDistinct-head nat_eq v vs d) f.1) in
-    omega (arith, more, size_set mask v f.0, length-set mask v true)
+    let free : counted (members mask v) ≡ 0 = rw f.0.1 refl in
+    omega (arith, more, free, how_many-set mask v true f.0.0, length-set mask v true)
 
 -- a mask of what is unsettled has no more vertices than there are
-pub size_unsettled : (b : BoardRecord) (mask : List Bool) → IsLawful b.graph b.journal → length mask ≡ length b.graph
-    → ((v : ℕ) → members mask v ≡ unsettled b.graph (state_of b.journal) v) → size mask ≤ number_unsettled b
-size_unsettled b mask lawful sized are =
+pub how_many-unsettled : (b : BoardRecord) (mask : List Bool) → IsLawful b.graph b.journal → length mask ≡ length b.graph
+    → ((v : ℕ) → members mask v ≡ unsettled b.graph (state_of b.journal) v) → how_many mask ≤ number_unsettled b
+how_many-unsettled b mask lawful sized are =
     let all = recursion_from_All (Free mask) (settled_list b.journal) (each_named (Free mask) (AllRows b.journal) free) in
     let h = beside (settled_list b.journal) mask lawful.once all in
     omega (arith, h, sized, number_is b.journal)

@@ -7,6 +7,7 @@ use Rattle.pg_game.specs.VertexSet.{members}
 use Rattle.pg_text.specs.Solution.{IsExactSolution}
 use Rattle.pg_text.specs.declared.solution_text.Solution.{Solution}
 use Rattle.pg_dominion.specs.Claim.{ClaimRows, IsGoodIn}
+use Rattle.pg_finders.specs.Part.{IsPart}
 use Rattle.pg_finders.specs.declared.inside.Copied.{Copied}
 use Rattle.pg_board.specs.BoardRecord.{BoardRecord}
 use Rattle.pg_board.specs.State.{unsettled}
@@ -20,10 +21,11 @@ pub record IsLawfulBoard (b : BoardRecord) : Type 0 where
   pub lawful : IsLawful b.graph b.journal
   pub within : number_settled b.journal ≤ length b.graph
 
--- the unsettled part of the board, and its numbers; a claim that is good in the part is a dominion after so many entries
+-- the unsettled part of the board, which is a subgame, and its numbers; a claim that is good in the part is a dominion after so many entries
 pub record IsCopyOf (b : BoardRecord) (c : Copied) : Type 0 where
   pub graph : c.inside.graph ≡ b.graph
   pub mask : (v : ℕ) → members c.inside.mask v ≡ unsettled b.graph (state_of b.journal) v
+  pub part : IsPart c.inside
   pub entries : c.at ≡ length b.journal
   pub number : c.settled ≡ number_settled b.journal
   pub dominions : (p : Player) (rows : ClaimRows) → IsGoodIn b.graph (members c.inside.mask) p rows → IsDominionAfter b.graph b.journal c.at p rows

@@ -1,12 +1,12 @@
 -- A board's journal: its entries, the oldest first.
-use Rattle.std.specs.Prelude.{ℕ, ◌≡◌, ◌≤◌, ◌==◌, ◌↔◌, if◌then◌else◌, List, [], ◌∷◌, length, take, drop, map, flat_map}
+use Rattle.std.specs.Prelude.{ℕ, ◌≡◌, ◌≤◌, ◌==◌, ◌↔◌, if◌then◌else◌, List, [], ◌∷◌, length, take, drop, flat_map}
 use Rattle.std.specs.Prelude.{sum_by, filter, slice_get, nat_eq, Some, None}
 use Rattle.std.specs.List.{IsDistinct}
 use Rattle.pg_game.specs.declared.player.Player.{Player}
 use Rattle.pg_game.specs.Graph.{Graph}
 use Rattle.pg_game.specs.VertexSet.{In, all_vertices, union}
 use Rattle.pg_game.specs.Attractor.{Attractor}
-use Rattle.pg_dominion.specs.Claim.{ClaimRows, named, choice_in}
+use Rattle.pg_dominion.specs.Claim.{ClaimRows, vertices, named, choice_in}
 use Rattle.pg_dominion.specs.Attraction.{AttractInTurn}
 use Rattle.pg_board.specs.declared.journal.Entry.{Entry}
 use Rattle.pg_board.specs.State.{State, settled, rest_of, IsGoodOn, IsLawfulState, IsDominion}
@@ -36,7 +36,7 @@ pub record Answers (g : Graph) (st : State) (p : Player) (rows : ClaimRows) (e :
 
 -- no vertex is in two rows; each entry answers its own claim, which is good on the state before it; each prefix leaves a lawful state
 pub record IsLawful (g : Graph) (journal : Journal) : Type 0 where
-  pub once : IsDistinct nat_eq (map (λ r. r.0) (flat_map (λ e. e.rows) journal))
+  pub once : IsDistinct nat_eq (vertices (flat_map (λ e. e.rows) journal))
   pub good : (k : ℕ) (e : Entry) → slice_get journal k ≡ Some e → IsGoodOn g (state_of (take k journal)) e.player (claimed_rows e)
   pub answered : (k : ℕ) (e : Entry) → slice_get journal k ≡ Some e → Answers g (state_of (take k journal)) e.player (claimed_rows e) e
   pub states : (k : ℕ) → k ≤ length journal → IsLawfulState g (state_of (take k journal))

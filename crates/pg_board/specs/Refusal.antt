@@ -1,5 +1,5 @@
 -- Why a board refuses a claim: the first reason that applies.
-use Rattle.std.specs.Prelude.{ℕ, ◌≡◌, ◌≢◌, ◌≤◌, []}
+use Rattle.std.specs.Prelude.{ℕ, ◌≡◌, ◌≢◌, ◌≤◌, false, []}
 use Rattle.pg_game.specs.declared.player.Player.{Player}
 use Rattle.pg_game.specs.Player.{opponent}
 use Rattle.pg_game.specs.Graph.{Graph}
@@ -18,21 +18,22 @@ use Rattle.pg_board.specs.State.{State, settled, rest_of}
 abbrev pub IsLost : State → Player → ClaimRows → ℕ → Type 0
 IsLost st p rows v = In (named rows) v × In (settled st (opponent p)) v
 
--- a kept edge of the rest that ends neither in the rest nor at the player's vertices
+-- a kept edge of the rows that ends neither in them nor at the player's vertices
 abbrev pub IsOpenEdge : Graph → State → Player → ClaimRows → ℕ → ℕ → Type 0
-IsOpenEdge g st p rows v w = KeptEdge g p (named (rest_of st rows)) (choice_in rows) v w × (In (union (named (rest_of st rows)) (settled st p)) w → ⊥)
+IsOpenEdge g st p rows v w = KeptEdge g p (named rows) (choice_in rows) v w × (union (named rows) (settled st p) w ≡ false)
 
-pub record IsFirstOpenEdge (g : Graph) (st : State) (p : Player) (rows : ClaimRows) (v w : ℕ) : Type 0 where
-  pub edge : IsOpenEdge g st p rows v w
-  pub first : (u x : ℕ) → IsOpenEdge g st p rows u x → v ≤ u
-  pub least : (x : ℕ) → IsOpenEdge g st p rows v x → w ≤ x
+-- an edge from v to w, no edge from a lesser vertex than v, and none from v to a lesser one than w
+pub record IsFirstEdge (E : ℕ → ℕ → Type 0) (v w : ℕ) : Type 0 where
+  pub edge : E v w
+  pub first : (u x : ℕ) → E u x → v ≤ u
+  pub least : (x : ℕ) → E v x → w ≤ x
 
 abbrev pub Refuses : Graph → State → Player → ClaimRows → Refusal → Type 0
 Refuses g st p rows (refusal.Claim fault) = IsClaimFault g p rows fault × (fault ≢ claim_fault.Memory)
 Refuses g st p rows (refusal.Foreign v) = ⊥
 Refuses g st p rows (refusal.Lost v) = IsSound g p rows × IsLeast (IsLost st p rows) v
 Refuses g st p rows refusal.Stale = IsSound g p rows × NoneHas (IsLost st p rows) × (rest_of st rows ≡ [])
-Refuses g st p rows (refusal.Open v w) = IsSound g p rows × NoneHas (IsLost st p rows) × IsFirstOpenEdge g st p rows v w
+Refuses g st p rows (refusal.Open v w) = IsSound g p rows × NoneHas (IsLost st p rows) × IsFirstEdge (IsOpenEdge g st p (rest_of st rows)) v w
 Refuses g st p rows refusal.Memory = Unit {0}
 
 -- the refusal where a claim's check failed

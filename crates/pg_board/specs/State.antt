@@ -7,9 +7,9 @@ use Rattle.pg_game.specs.VertexSet.{VertexSet, In, Within, all_vertices, union}
 use Rattle.pg_game.specs.Kept.{Choices, KeptEdge}
 use Rattle.pg_game.specs.Subgame.{IsSubgame}
 use Rattle.pg_game.specs.Attractor.{Attractor}
-use Rattle.pg_game.specs.Region.{IsRegion, OnlyGoodWalks}
+use Rattle.pg_game.specs.Region.{IsRegion}
 use Rattle.pg_text.specs.Known.{is_winner, choice_in_row}
-use Rattle.pg_dominion.specs.Claim.{ClaimRows, named, choice_in, HasShape}
+use Rattle.pg_dominion.specs.Claim.{ClaimRows, named, choice_in, IsSound}
 
 -- the player and the choice of each settled vertex
 abbrev pub State : Type 0
@@ -46,15 +46,13 @@ rest_of st rows = filter (λ r. is_unsettled (st r.0)) rows
 
 -- a claim that may be posted
 pub record IsGoodOn (g : Graph) (st : State) (p : Player) (rows : ClaimRows) : Type 0 where
-  pub shape : HasShape g p rows
-  pub good : OnlyGoodWalks g p (named rows) (choice_in rows)
+  pub sound : IsSound g p rows
   pub not_lost : (v : ℕ) → In (named rows) v → settled st (opponent p) v ≡ false
   pub not_stale : 0 < length (rest_of st rows)
   pub closed : (v w : ℕ) → KeptEdge g p (named (rest_of st rows)) (choice_in rows) v w → In (union (named (rest_of st rows)) (settled st p)) w
 
 -- a claim of a set that the player wins, whatever else is settled later (Jurdzinski, Paterson, Zwick 2008, relative to the settled part)
 pub record IsDominion (g : Graph) (st : State) (p : Player) (rows : ClaimRows) : Type 0 where
-  pub shape : HasShape g p rows
+  pub sound : IsSound g p rows
   pub vertices : Within (named rows) (unsettled g st)
-  pub good : OnlyGoodWalks g p (named rows) (choice_in rows)
   pub closed : (v w : ℕ) → KeptEdge g p (named rows) (choice_in rows) v w → In (union (named rows) (settled st p)) w

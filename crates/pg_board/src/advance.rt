@@ -94,8 +94,6 @@ impl<'g> Board<'g> {
         ensures { IfOk result (λ r. IsRunOn self.now.graph self.now.journal r) }
     {
         let copied = self.copy(alloc)?;
-        // for the proof: the mask is a subgame
-        let _game = copied.inside.game();
         Recursion::begin(alloc, game, copied.inside.mask().copy(alloc)?)
     }
 }

@@ -138,7 +138,8 @@ impl<'g> Board<'g> {
 
     /// The number of settled vertices.
     pub fn settled(&self) -> u64
-        ensures { result ≡ number_settled self.now.journal }
+        ensures number { result ≡ number_settled self.now.journal }
+        ensures board { IsLawfulBoard self.now }
     {
         u64::from(self.contents.number)
     }

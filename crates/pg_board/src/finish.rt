@@ -54,8 +54,6 @@ impl<'g> Board<'g> {
             return Ok(true);
         }
         let copied = self.copy(alloc)?;
-        // for the proof: the mask has the size of the graph
-        let _game = copied.inside.game();
         let Some(solved) = zielonka_within(alloc, &copied.inside, limit)? else {
             return Ok(false);
         };
@@ -115,15 +113,14 @@ impl<'g> Board<'g> {
 
     /// Posts a claim that was a dominion at some time, unless it has no rows.
     fn post_part(&mut self, alloc: Global, claim: &Claim) -> Result<(), Memory>
-        requires { 0 < length claim.now.rows
+        requires lawful { IsLawful self.old.graph self.old.journal }
+        requires dominion { 0 < length claim.now.rows
             → (k : ℕ) × IsDominionAfter self.old.graph self.old.journal k claim.now.player claim.now.rows }
         ensures lawful { IsLawful self.new.graph self.new.journal }
         ensures later { IsLater (claim.now.player ∷ []) self.old self.new }
         ensures settles { OnOk result (Settles self.new.journal claim.now.player claim.now.rows) }
     {
         if claim.rows.as_slice().is_empty() {
-            // for the proof: the journal is lawful
-            let _game = self.game();
             return Ok(());
         }
         self.post_own(alloc, claim)

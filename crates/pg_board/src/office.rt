@@ -187,8 +187,6 @@ impl<'g, L: Ledger> Office<'g, L> {
         ensures some { IfOk result (λ c. IsCopyOfSome share.now c) }
     {
         let locked = self.lock_for(rt, share);
-        // for the proof: the invariant of the board
-        let _game = locked.board.game();
         locked.board.copy(alloc)
     }
 
@@ -198,7 +196,8 @@ impl<'g, L: Ledger> Office<'g, L> {
         rt: &R,
         share: &Share<L>,
     ) -> MutexGuard<'a, LockedBoard<'g, L>>
-        ensures { share.now ≤ number_settled (mutex_guard_value result).board.journal }
+        ensures board { IsLawfulBoard (mutex_guard_value result).board }
+        ensures settled { share.now ≤ number_settled (mutex_guard_value result).board.journal }
     {
         for _ in rt.forever() {
             let locked = self.locked.lock(rt);
@@ -227,14 +226,12 @@ impl<'g, L: Ledger> LockedBoard<'g, L> {
         worker: u32,
         claim: &Claim,
     ) -> Result<u32, Refusal>
-        requires { share.old ≤ number_settled self.old.board.journal }
-        ensures board { IsLawfulBoard self.old.board }
+        requires board { IsLawfulBoard self.old.board }
+        requires settled { share.old ≤ number_settled self.old.board.journal }
         ensures answer { Through (IsPostAnswer self.old.board self.new.board worker claim.now) result }
         ensures raised { IsRaised share.old share.new result }
     {
         let LockedBoard { board, book } = self;
-        // for the proof: the invariant of the board before the post
-        let _game = board.game();
         let posted = board.post(alloc, worker, claim)?;
         Ok(share.raise(book, board, posted))
     }
@@ -247,14 +244,12 @@ impl<'g, L: Ledger> LockedBoard<'g, L> {
         worker: u32,
         checked: &Checked,
     ) -> Result<u32, Refusal>
-        requires { share.old ≤ number_settled self.old.board.journal }
-        ensures board { IsLawfulBoard self.old.board }
+        requires board { IsLawfulBoard self.old.board }
+        requires settled { share.old ≤ number_settled self.old.board.journal }
         ensures answer { Through (IsSettleAnswer self.old.board self.new.board worker checked.now) result }
         ensures raised { IsRaised share.old share.new result }
     {
         let LockedBoard { board, book } = self;
-        // for the proof: the invariant of the board before the claim is settled
-        let _game = board.game();
         let posted = board.settle(alloc, worker, checked)?;
         Ok(share.raise(book, board, posted))
     }

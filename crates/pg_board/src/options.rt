@@ -12,8 +12,8 @@ pub const BUDGET: u64 = 10_000;
 
 /// Options for solving a game.
 ///
-/// `workers`: their number, 1 to 64. `bound`: the most vertices of a small dominion, 0 to 8; 0 for no search. `budget`: the
-/// most choices that one search for small dominions tries.
+/// `workers`: how many draw the jobs, 1 to 64; the jobs depend on the other two alone. `bound`: the most vertices of a small
+/// dominion, 0 to 8; 0 for no search. `budget`: the most choices that one search for small dominions tries.
 #[derive(Clone, Copy, Debug, Drop)]
 pub struct Options {
     pub workers: u32,

@@ -2,7 +2,7 @@
 //! Attraction changes them in place (Zielonka 1998): an attracted vertex is settled at once, and a cursor at each vertex of the
 //! opponent keeps the place of an unsettled successor.
 
-ghost use Rattle.std.specs.Prelude.{◌≡◌, ◌<◌, ◌==◌, ◌≤◌, if◌then◌else◌, ℕ, [], length, map, nat_eq, true, false, Some, None, IfOk, MatchOption};
+ghost use Rattle.std.specs.Prelude.{◌≡◌, ◌<◌, ◌==◌, ◌≤◌, if◌then◌else◌, ℕ, [], length, nat_eq, true, false, Some, None, IfOk, MatchOption};
 ghost use Rattle.std.specs.Prelude.{slice_set, slice_get, vec_capacity};
 ghost use Rattle.std.specs.List.{IsDistinct};
 ghost use Rattle.std.specs.List.Sorted.{IsStrictlyIncreasing};
@@ -12,12 +12,12 @@ ghost use Rattle.pg_board.specs.private.VertexState.{state_in};
 ghost use Rattle.pg_game.specs.Graph.{HasEdge, IsGame};
 ghost use Rattle.pg_game.specs.Subgame.{IsSubgame};
 ghost use Rattle.pg_game.specs.VertexSet.{members, In, Within, union, without};
-ghost use Rattle.pg_dominion.specs.Claim.{named, IsRightRow, AreRight};
+ghost use Rattle.pg_dominion.specs.Claim.{vertices, named, IsRightRow, AreRight};
 ghost use Rattle.pg_dominion.specs.AttractorState.{AttractsNoFurther};
 ghost use Rattle.pg_board.specs.private.WrittenRows.{open_before, HasWritten, WritesInTurn};
+ghost use Rattle.pg_board.specs.Refusal.{IsFirstEdge, IsLost, IsOpenEdge};
 ghost use Rattle.pg_game.specs.Least.{NoneHas, IsLeast};
-ghost use Rattle.pg_board.specs.Refusal.{IsLost};
-ghost use Rattle.pg_board.specs.private.OpenEdges.{AreTakenOut, EndsOutside, IsFirstEnd, LeadsOutside, IsFirstOutside};
+ghost use Rattle.pg_board.specs.private.OpenEdges.{AreTakenOut, EndsOutside};
 
 use pg_dominion::{AttractorState, Claim, Cursors, attract_from};
 use pg_game::{Game, Mask, Memory, Player};
@@ -73,7 +73,7 @@ impl Regions {
 
     /// The least vertex of the claim that is settled for the opponent.
     pub fn first_lost(&self, claim: &Claim) -> Option<u32>
-        requires { IsStrictlyIncreasing (map (λ r. r.0) claim.now.rows) }
+        requires { IsStrictlyIncreasing (vertices claim.now.rows) }
         ensures { MatchOption result (NoneHas (IsLost (table_state self.now.table.items) claim.now.player claim.now.rows))
             (IsLeast (IsLost (table_state self.now.table.items) claim.now.player claim.now.rows)) }
     {
@@ -114,10 +114,9 @@ impl Regions {
         requires unsettled { Within (named rest.now) (members self.old.unsettled) }
         ensures regions { AreRegions game.now self.new }
         ensures table { self.new.table.items ≡ self.old.table.items }
-        ensures edge { MatchOption result ((v w : ℕ) → LeadsOutside game.now player
-            (union (named rest.now) (settled (table_state self.old.table.items) player)) rest.now v w → ⊥)
-            (λ e. IsFirstOutside game.now player
-            (union (named rest.now) (settled (table_state self.old.table.items) player)) rest.now e.0 e.1) }
+        ensures edge { MatchOption result
+            ((v w : ℕ) → IsOpenEdge game.now (table_state self.old.table.items) player rest.now v w → ⊥)
+            (λ e. IsFirstEdge (IsOpenEdge game.now (table_state self.old.table.items) player rest.now) e.0 e.1) }
     {
         remove_named(&mut self.unsettled, rest);
         let bounds = Bounds {
@@ -135,7 +134,7 @@ impl Regions {
     pub fn write_rows(&mut self, game: &Game, player: Player, rows: &[(u32, Option<u32>)])
         requires regions { AreRegions game.now self.old }
         requires unsettled { Within (named rows.now) (members self.old.unsettled) }
-        requires distinct { IsDistinct nat_eq (map (λ r. r.0) rows.now) }
+        requires distinct { IsDistinct nat_eq (vertices rows.now) }
         ensures growing { HasWritten game.now self.new rows.now (length game.now) }
         ensures same { (v : ℕ) → open_before self.new rows.now v ≡ members self.old.unsettled v }
         ensures written { (v : ℕ) → table_state self.new.table.items v ≡ state_with (table_state self.old.table.items) player rows.now v }
@@ -349,8 +348,8 @@ impl<'a> Bounds<'a> {
         requires { IsRightRow self.now.game.now self.now.player row }
         ensures { MatchOption result ((w : ℕ) → EndsOutside self.now.game.now self.now.player
             (union (named self.now.rest.now) (settled (table_state self.now.regions.now.table.items) self.now.player)) row w → ⊥)
-            (IsFirstEnd self.now.game.now self.now.player (union (named self.now.rest.now)
-            (settled (table_state self.now.regions.now.table.items) self.now.player)) row) }
+            (IsLeast (EndsOutside self.now.game.now self.now.player (union (named self.now.rest.now)
+            (settled (table_state self.now.regions.now.table.items) self.now.player)) row)) }
     {
         if let Some(w) = row.1 {
             return if self.has(w) { None } else { Some(w) };
@@ -366,10 +365,10 @@ impl<'a> Bounds<'a> {
     /// The first kept edge of the rest that ends outside.
     fn first_edge(&self) -> Option<(u32, u32)>
         requires { AreRight self.now.game.now self.now.player self.now.rest.now }
-        ensures { MatchOption result ((v w : ℕ) → LeadsOutside self.now.game.now self.now.player
-            (union (named self.now.rest.now) (settled (table_state self.now.regions.now.table.items) self.now.player)) self.now.rest.now v w → ⊥)
-            (λ e. IsFirstOutside self.now.game.now self.now.player
-            (union (named self.now.rest.now) (settled (table_state self.now.regions.now.table.items) self.now.player)) self.now.rest.now e.0 e.1) }
+        ensures { MatchOption result ((v w : ℕ) → IsOpenEdge self.now.game.now
+            (table_state self.now.regions.now.table.items) self.now.player self.now.rest.now v w → ⊥)
+            (λ e. IsFirstEdge (IsOpenEdge self.now.game.now
+            (table_state self.now.regions.now.table.items) self.now.player self.now.rest.now) e.0 e.1) }
     {
         'rows: for row in self.rest {
             if let Some(w) = self.first_end(*row) {

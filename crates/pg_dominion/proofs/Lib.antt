@@ -2,6 +2,7 @@ pub mod Common
 pub mod Rows
 pub mod Shape
 pub mod Named
+pub mod RowsByPlace
 pub mod AgreeingRows
 pub mod AttractionSteps
 pub mod TakenRow

@@ -1,5 +1,5 @@
 -- The shape of a claim, one row after another.
-use Rattle.pg_dominion.proofs.Common.{◌≡◌, ℕ, zero, suc, ◌+◌, ◌<◌, ◌≤◌, false, inl, inr, List, [], ◌∷◌, ◌++◌, length, take, map, get_or, refl, sym, subst}
+use Rattle.pg_dominion.proofs.Common.{◌≡◌, ℕ, zero, suc, ◌+◌, ◌<◌, ◌≤◌, false, inl, inr, List, [], ◌∷◌, ◌++◌, length, take, get_or, refl, sym, subst}
 use Rattle.pg_dominion.proofs.Common.{arith, length-append, rules, below_or_last, Option}
 use Rattle.pg_dominion.proofs.Common.{IsStrictlyIncreasing, eqb-true, false_from_ne_true}
 use Rattle.pg_dominion.proofs.Common.{drop, take-append-drop, take_more, take_all, length-map, get_or_append_left, get_or_push, sorted_from_strictly_increasing}
@@ -43,11 +43,6 @@ AreRight-push g p rows r a right l = record {
       ]);
 }
 
--- a vertex from the next on is not named
-pub unnamed : (rows : ClaimRows) (v : ℕ) → next_after rows ≤ v → named rows v ≡ false
-unnamed [] v l = refl
-unnamed (x ∷ rows) v l = search (rules, unnamed rows v (omega arith), false_from_ne_true, eqb-true)
-
 pub AreRight-last : (g : Graph) (p : Player) (rows : ClaimRows) (r : ℕ × Option ℕ) → AreRight g p (rows ++ r ∷ [])
     → IsRightRow g p r × (next_after rows ≤ r.0)
 AreRight-last g p rows r a =
@@ -65,14 +60,6 @@ AreRight-last g p rows r a =
 
 pub AreRight-front : (g : Graph) (p : Player) (xs ys : ClaimRows) → AreRight g p (xs ++ ys) → AreRight g p xs
 AreRight-front g p xs ys a = search (rules, all-front, a.each, map-append, a.rising, get_or_append_left, length-append)
-
--- each of right rows is right, and its vertex is above those before
-pub right_at : (g : Graph) (p : Player) (rows : ClaimRows) (i : ℕ) → AreRight g p rows → i < length rows
-    → IsRightRow g p (get_or rows i (0, None)) × (next_after (take i rows) ≤ (get_or rows i (0, None)).0)
-right_at g p rows i a l =
-    let front : AreRight g p (take (i + 1) rows) = AreRight-front g p (take (i + 1) rows) (drop (i + 1) rows)
-    (subst (λ (xs : ClaimRows). AreRight g p xs) (sym (take-append-drop (i + 1) rows)) a) in
-    AreRight-last g p (take i rows) (get_or rows i (0, None)) (subst (λ (xs : ClaimRows). AreRight g p xs) (take_more rows i (0, None) l) front)
 
 -- rows that are checked one after another
 module _ (g : Graph) (p : Player) (rows : ClaimRows) where

@@ -1,6 +1,6 @@
 -- What a strategy graph keeps: one vertex more, and its bad closed walks.
 use Rattle.pg_dominion.proofs.Common.{◌≡◌, ◌≢◌, ℕ, ◌+◌, ◌≤◌, Bool, true, false, ◌&&◌, ◌||◌, ◌↔◌, inl, inr, List, [], ◌∷◌, refl, sym, ◌∙◌, ap, subst, arith}
-use Rattle.pg_dominion.proofs.Common.{lt-ltb, ltb-true, rules, or-false, or_left, or_right, false_from_ne_true, Option, ◌==◌, if◌then◌else◌, Contains}
+use Rattle.pg_dominion.proofs.Common.{lt-ltb, ltb-true, rules, or-false, or_left, or_right, false_from_ne_true, Option, Some, None, ◌==◌, if◌then◌else◌, Contains}
 use Rattle.pg_dominion.proofs.Common.{eq-eqb, ne_eqb, cases_Bool, cases_eq, Player, same_player, opponent, of_parity, Graph, priority_of, owner_of}
 use Rattle.pg_dominion.proofs.Common.{successors_of, VertexSet, In, Choices, kept, KeptEdge, Walk, OnBadWalk, same_is, is_same, ClosedWalk-weaker}
 use Rattle.pg_dominion.proofs.Common.{StrategyGraph, Edge, IsOnBadCycle, ends_at, is_bad, IsStrategy}
@@ -23,6 +23,14 @@ below_next v x = elim (cases_order x v) [
   where
     not_below : (a b : ℕ) → b ≤ a → nat_lt a b ≡ false
     not_below a b l = false_from_ne_true (nat_lt a b) (λ t. (let h = ltb-true a b t in absurd (omega (arith, h, l))))
+
+-- with a choice exactly at the player's vertices, what is kept of one is what he keeps
+pub ends_kept : (g : Graph) (p : Player) (s : Choices) (v : ℕ) (c : Option ℕ) → (owner_of g v ≡ p → (w : ℕ) × (c ≡ Some w) × (s v ≡ Some w))
+    → (owner_of g v ≢ p → c ≡ None) → ends_at g v c ≡ kept g p s v
+ends_kept g p s v c own other = elim (cases_Bool (same_player (owner_of g v) p)) [
+  | inl e ↦ (let h = own (same_is (owner_of g v) p e) in rw (e, h.1, h.2) refl)
+  | inr e ↦ rw (e, other (λ o. let t = is_same (owner_of g v) p o in cc (t, e))) refl
+]
 
 module _ (X : VertexSet) (player_at : ℕ → Player) where
   pub strategy_none : (k : StrategyGraph) (s : Choices) → KeepsNothing k → ((v : ℕ) → X v ≡ false) → IsStrategy k X player_at s

@@ -2,7 +2,7 @@
 use Rattle.std.specs.Prelude.{ℕ, ◌≡◌, ◌≢◌, Bool, false, Option, Some, None, List, [], ◌∷◌, slice_index, Contains, if◌then◌else◌}
 use Rattle.pg_game.specs.declared.player.Player.{Player}
 use Rattle.pg_game.specs.Player.{same_player, opponent, of_parity}
-use Rattle.pg_game.specs.Graph.{Graph, priority_of, successors_of}
+use Rattle.pg_game.specs.Graph.{Graph, owner_of, priority_of, successors_of}
 use Rattle.pg_game.specs.Kept.{Choices}
 use Rattle.pg_game.specs.VertexSet.{In, members}
 use Rattle.pg_game.specs.Walk.{ClosedWalk, greatest_priority}
@@ -12,6 +12,10 @@ use Rattle.pg_dominion.specs.declared.strategy_graph.StrategyGraph.{StrategyGrap
 abbrev pub ends_at : Graph → ℕ → Option ℕ → List ℕ
 ends_at g v None = successors_of g v
 ends_at g v (Some w) = w ∷ []
+
+-- the choice at the player's vertices, and none elsewhere
+abbrev pub own_choices : Graph → Player → Choices → Choices
+own_choices g p s v = if same_player (owner_of g v) p then s v else None
 
 -- the vertex's priority has the parity of the player's opponent
 abbrev pub is_bad : Graph → Player → ℕ → Bool

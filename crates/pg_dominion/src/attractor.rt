@@ -172,13 +172,13 @@ fn attract_to<A: AttractorState>(
     ensures refuses { OnErr result A.refuses }
 {
     for from in row {
-        consider(state, game, player, *from, to, list)?;
+        take_if_attracted(state, game, player, *from, to, list)?;
     }
     Ok(())
 }
 
 /// Takes `from` for the player if it is his, or if the opponent has no way out.
-fn consider<A: AttractorState>(
+fn take_if_attracted<A: AttractorState>(
     state: &mut A,
     game: &Game,
     player: Player,

@@ -93,8 +93,7 @@ fn names_bad_vertex(game: &ForwardGame, claim: &Claim) -> Result<bool, ClaimFaul
     ensures bad { IfOk result (λ bad. bad ≡ list_any (λ r. is_bad game.now claim.now.player r.0) claim.now.rows) }
     ensures fault { IfErr result (λ e. IsClaimFault game.now claim.now.player claim.now.rows e) }
 {
-    // for the proof: a game has fewer than 2^32 vertices, so a vertex and one more fits
-    let _n = game.len();
+    let n = game.len();
     let rows = claim.rows.as_slice();
     if rows.is_empty() {
         return Err(ClaimFault::Shape(0));
@@ -103,7 +102,7 @@ fn names_bad_vertex(game: &ForwardGame, claim: &Claim) -> Result<bool, ClaimFaul
     let mut least = 0u32;
     let mut bad = false;
     'rows: for row in rows {
-        if row.0 < least || !is_right_row(game, claim.player, *row) {
+        if row.0 < least || row.0 >= n || !is_right_row(game, claim.player, *row) {
             return Err(ClaimFault::Shape(place));
         }
         bad |= is_bad(game, claim.player, row.0);
@@ -113,14 +112,12 @@ fn names_bad_vertex(game: &ForwardGame, claim: &Claim) -> Result<bool, ClaimFaul
     Ok(bad)
 }
 
-/// Whether the row names a vertex, with a choice that is a successor exactly where the player owns it.
+/// Whether the row's choice is a successor exactly where the player owns the vertex.
 fn is_right_row(game: &ForwardGame, player: Player, row: (u32, Option<u32>)) -> bool
+    requires { row.0 < length game.now }
     ensures { IsTrue result ↔ IsRightRow game.now player row }
 {
     let (v, choice) = row;
-    if v >= game.len() {
-        return false;
-    }
     let own = game.owner(v) == player;
     match choice {
         Some(w) => own && game.has_edge(v, w),
@@ -136,8 +133,6 @@ fn is_shown_small(alloc: Global, game: &ForwardGame, claim: &Claim) -> Result<bo
     requires { HasShape game.now claim.now.player claim.now.rows }
     ensures { IfOk result (λ shown. shown ≡ true → NoneHas (OnBadWalk game.now claim.now.player (named claim.now.rows) (choice_in claim.now.rows))) }
 {
-    // for the proof: a claim with its shape names vertices of a game
-    let _n = game.len();
     let rows = claim.rows.as_slice();
     let mut list = Vec::new(alloc);
     let mut steps = 0usize;
@@ -196,8 +191,6 @@ fn expand(
     ensures longer { IfOk result (λ shown. (more : List ℕ) × (list.new.items ≡ list.old.items ++ more)) }
     ensures stays { IfOk result (λ shown. shown ≡ true → LeadsToListed game.now claim.now.player claim.now.rows start list.new.items v) }
 {
-    // for the proof: the graph is a game, so the ends of edges are vertices
-    let _n = game.len();
     let rows = claim.rows.as_slice();
     let Some(choice) = choice_at(rows, v) else {
         unreachable!()

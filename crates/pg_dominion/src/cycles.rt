@@ -61,7 +61,7 @@ fn search_from(
         if searches.find_bad_cycle(v)? {
             return Ok(SearchProgress::All(Some(v)));
         }
-        if searches.are_over(patience) {
+        if searches.repeat_more_than(patience) {
             return Ok(SearchProgress::Before(v + 1));
         }
     }
@@ -132,8 +132,6 @@ impl<'k, 'g> Searches<'k, 'g> {
         ensures back { IfOk result (λ found. IsTrue found ↔ Reaches self.old.labels.kept.now start start) }
     {
         let kept = self.labels.kept;
-        // for the proof: priorities are so small that one more fits, and so are vertices
-        let _n = kept.game.len();
         let top = kept.game.priority(start);
         let own = self.labels.group_above(start, top);
         self.search.queue.clear();
@@ -157,7 +155,7 @@ impl<'k, 'g> Searches<'k, 'g> {
     }
 
     /// Whether more repeats are left than the patience.
-    fn are_over(&self, patience: u64) -> bool
+    fn repeat_more_than(&self, patience: u64) -> bool
         ensures { result ≡ true → IsBounded patience }
     {
         self.search.repeats > patience
@@ -193,8 +191,6 @@ impl<'k, 'g> Labels<'k, 'g> {
         requires { v < length self.now.kept.now.game.now }
         ensures { result ≡ true → Reaches self.now.kept.now v v → ⊥ }
     {
-        // for the proof: a game has fewer than 2^32 vertices, so a vertex and one more fits
-        let _n = self.kept.game.len();
         self.levels[v as usize] > self.kept.game.priority(v) && self.groups[v as usize] == v + 1
     }
 
@@ -247,8 +243,6 @@ impl<'k, 'g> Labels<'k, 'g> {
             → Leads self.now.kept.now top (slice_index search.old.queue.items 0) (slice_index search.old.queue.items 0)) }
         ensures spread { IfOk result (λ found. found ≡ false → IsSpreadAt self.now top own search.new at) }
     {
-        // for the proof: a game has fewer than 2^32 vertices, so a place in the queue fits
-        let _n = self.kept.game.len();
         let v = search.queue[at];
         let row = self.kept.row(v);
         search.repeats = self.count_repeats(v, row.len(), search.repeats);

@@ -1,16 +1,14 @@
 //! What the checks of claims and of solutions note of a vertex: whether it is bad, and the choice there.
 
-ghost use Rattle.std.specs.Prelude.{◌≡◌, ◌<◌, length, slice_set, None, if◌then◌else◌};
-ghost use Rattle.pg_game.specs.Graph.{owner_of};
-ghost use Rattle.pg_game.specs.Player.{same_player};
-ghost use Rattle.pg_dominion.specs.KeptEdges.{is_bad};
+ghost use Rattle.std.specs.Prelude.{◌≡◌, ◌<◌, length, slice_set};
+ghost use Rattle.pg_dominion.specs.KeptEdges.{own_choices, is_bad};
 
 use pg_game::{ForwardGame, Mask, Player};
 
 /// The choice, if the player owns the vertex; else none.
 pub fn own_choice(game: &ForwardGame, player: Player, v: u32, choice: Option<u32>) -> Option<u32>
     requires { v < length game.now }
-    ensures { result ≡ (if same_player (owner_of game.now v) player then choice else None) }
+    ensures { result ≡ own_choices game.now player (λ x. choice) v }
 {
     if game.owner(v) == player {
         choice

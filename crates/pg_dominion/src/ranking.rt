@@ -83,8 +83,6 @@ fn is_ranked_row(kept: &StrategyGraph, ranking: &Ranking, ends: &[u32], v: u32) 
     requires ends { AreEnds ranking.now.keys.items ends.now }
     ensures { result ≡ true → IsRankedRow kept.now ranking.now.from ranking.now.limit ranking.now.places.items ranking.now.keys.items v }
 {
-    // for the proof: priorities are so small that twice one fits
-    let _n = kept.game.len();
     let places = ranking.places.as_slice();
     let keys = ranking.keys.as_slice();
     let at = places[v as usize] as usize;

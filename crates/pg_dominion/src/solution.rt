@@ -8,7 +8,7 @@ ghost use Rattle.pg_game.specs.Least.{NoneHas, IsLeast};
 ghost use Rattle.pg_text.specs.Solution.{IsSolution, winner_of, choice_of};
 ghost use Rattle.pg_text.specs.Verdict.{LacksChoice, HasBadChoice, Leaves, IsFirstLeaving};
 ghost use Rattle.pg_dominion.specs.Verdict.{FailsBy};
-ghost use Rattle.pg_dominion.specs.private.JointStrategy.{IsJointStrategy, LeavesTo, IsFirstTo};
+ghost use Rattle.pg_dominion.specs.private.JointStrategy.{IsJointStrategy, LeavesTo};
 
 use crate::cycles::least_bad_vertex;
 use crate::notes::{is_bad, own_choice};
@@ -83,8 +83,6 @@ pub fn check_forward_solution(
     ensures holds { OnOk result (IsSolution game.now solution.now.rows) }
     ensures fails { IfErr result (λ e. FailsBy game.now solution.now.rows e) }
 {
-    // for the proof: the graph is a game, so no edge leaves it
-    let _n = game.len();
     let candidate = Candidate { game, solution };
     if let Some(v) = first_without_choice(&candidate) {
         return Err(SolutionFault::NoChoice(game.id(v)));
@@ -205,7 +203,7 @@ fn first_leaving(joint: &JointStrategy) -> Option<(u32, u32)>
 fn leaves_to(joint: &JointStrategy, v: u32) -> Option<u32>
     requires { v < length joint.now.kept.now.game.now }
     ensures first { MatchOption result (NoneHas (LeavesTo joint.now.kept.now joint.now.solution.now.rows v))
-        (IsFirstTo joint.now.kept.now joint.now.solution.now.rows v) }
+        (IsLeast (LeavesTo joint.now.kept.now joint.now.solution.now.rows v)) }
     ensures within { IfSome result (λ w. w < length joint.now.kept.now.game.now) }
 {
     let winner = row_at(joint.solution, v).0;

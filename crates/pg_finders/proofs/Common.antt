@@ -11,6 +11,7 @@ pub use Rattle.std.proofs.lemmas.Grind.{common_steps}
 pub use Rattle.std.proofs.lemmas.List.{append-nil, get_or-take, get_or_append_left, get_or_default, get_or_push, length-replicate, map-append, nil_from_length}
 pub use Rattle.std.proofs.lemmas.List.{take-append-drop, take-append-le, take_all}
 pub use Rattle.std.proofs.lemmas.List.Elements.{Contains-get_or}
+pub use Rattle.std.proofs.lemmas.List.Sums.{count_by-le-length}
 pub use Rattle.std.proofs.lemmas.Result.{on_ok_weaker}
 pub use Rattle.std.specs.List.{Contains, count_by, range_with_len}
 pub use Rattle.std.specs.List.Sorted.{IsNonDecreasingBy}
@@ -21,22 +22,22 @@ pub use Rattle.pg_game.proofs.Players.{is_same, other_from_not, own_or_other, sa
 pub use Rattle.pg_game.proofs.Rotate.{good_from_none}
 pub use Rattle.pg_game.proofs.Walks.{ClosedWalk-weaker}
 pub use Rattle.pg_game.specs.Graph.{Graph, HasEdge, owner_of, priority_of, successors_of}
+pub use Rattle.pg_dominion.specs.KeptEdges.{own_choices, IsOnBadCycle}
 pub use Rattle.pg_game.specs.Kept.{Choices, KeptEdge, kept, option_list}
 pub use Rattle.pg_game.specs.Least.{NoneHas}
 pub use Rattle.pg_game.specs.Player.{of_parity, opponent, same_player}
 pub use Rattle.pg_game.specs.Region.{OnlyGoodWalks}
 pub use Rattle.pg_game.specs.Subgame.{IsSubgame}
-pub use Rattle.pg_game.specs.VertexSet.{In, VertexSet, Within, members, no_vertices, union, without}
+pub use Rattle.pg_game.specs.VertexSet.{In, VertexSet, Within, how_many, members, no_vertices, union, without}
 pub use Rattle.pg_game.specs.Walk.{ClosedWalk, Walk, greatest_priority}
 pub use Rattle.pg_game.specs.declared.player.Player.{Player}
 pub use Rattle.pg_game.specs.declared.player.Player.TheVariants.{Even, Odd}
 pub use Rattle.pg_dominion.proofs.Named.{choice-back, choice-front, named-append}
 pub use Rattle.pg_dominion.specs.Attraction.{IsAttractedRow}
-pub use Rattle.pg_dominion.specs.Claim.{ClaimRows, IsGoodIn, choice_in, named, vertices}
-pub use Rattle.pg_dominion.specs.KeptEdges.{IsOnBadCycle}
+pub use Rattle.pg_dominion.specs.Claim.{ClaimRows, IsGoodIn, choice_in, named, row_at, vertices}
 pub use Rattle.pg_dominion.specs.declared.claim.Claim.{Claim}
 pub use Rattle.pg_dominion.specs.declared.strategy_graph.StrategyGraph.{StrategyGraph}
-pub use Rattle.pg_finders.specs.Claims.{AreClaims, own_choices, rows_below}
+pub use Rattle.pg_finders.specs.Claims.{AreClaims, rows_below}
 pub use Rattle.pg_finders.specs.Finding.{AtMostInside, IsLoop, IsSolitaire, most_choices}
 pub use Rattle.pg_finders.specs.Jobs.{IsOfSmall}
 pub use Rattle.pg_finders.specs.declared.recursion.subgame.Plan.{Plan}
@@ -47,12 +48,12 @@ pub use Rattle.pg_finders.specs.private.recursion.TakenVertices.{AttractsNoActiv
 pub use Rattle.pg_finders.specs.private.recursion.Listed.{Apart, Once, listed}
 pub use Rattle.pg_finders.specs.private.recursion.Order.{AllStand, AreDistinct, AreGreatest, AreVertices, IsLast, IsOrder, priority_at, vertex_at_place}
 pub use Rattle.pg_finders.specs.private.recursion.Plans.{HasBelow, IsGiven, SameAt, SameOutside, choices_of, winners_of}
-pub use Rattle.pg_finders.specs.private.recursion.SolverState.{IsSolverState, how_many_gone, AreFewer, number_left}
+pub use Rattle.pg_finders.specs.private.recursion.SolverState.{IsAtEnd, IsSolverState, how_many_gone, AreFewer, number_left}
 pub use Rattle.pg_finders.specs.private.recursion.Settled.{SettledLists, settled_of}
 pub use Rattle.pg_finders.specs.private.recursion.OpenLevels.{AreApart, AreOpenLevels, Linked, count_at, gone, level_at, part, prefix}
 pub use Rattle.pg_finders.specs.private.recursion.Levels.{Level, AreLevels}
-pub use Rattle.pg_finders.specs.Steps.{size, steps, steps_after, steps_left, work}
-pub use Rattle.pg_finders.specs.private.small.Partial.{AreDifferent, AreDifferentRows, Extends, ExtendsChoices, IsPartial, choice_at, no_row, vertex_in}
+pub use Rattle.pg_finders.specs.Steps.{steps, steps_after, steps_left, work}
+pub use Rattle.pg_finders.specs.private.small.Partial.{AreDifferentRows, Extends, ExtendsChoices, IsPartial}
 pub use Rattle.pg_finders.specs.private.small.SearchSteps.{HasNoCapacity, NoneAgreesAt, StillAgreesAt}
 pub use Rattle.pg_finders.specs.private.small.Small.{LeastSoFar}
 pub use Rattle.pg_finders.specs.private.small.Walked.{IsFrom, IsReached, RowLeadsTo, Under, WalksBack}

@@ -1,11 +1,12 @@
 -- What a player holds in a subgame is a good claim of it.
-use Rattle.pg_finders.proofs.Common.{rules, ◌≡◌, ℕ, zero, suc, ◌<◌, Bool, true, false, ◌&&◌, ◌||◌, ◌⊎◌, inl, inr, [], ◌∷◌, ◌++◌, length, refl, sym, ◌∙◌, ap}
-use Rattle.pg_finders.proofs.Common.{subst, ltb-true, Option, None, if◌then◌else◌, Contains, cases_Bool, Player, Even, Odd, same_player, Graph, HasEdge}
+use Rattle.pg_finders.proofs.Common.{rules, ◌≡◌, ℕ, zero, suc, ◌<◌, Bool, true, false, ◌&&◌, ◌||◌, ◌⊎◌, inl, inr, length, refl, sym, ◌∙◌, ap}
+use Rattle.pg_finders.proofs.Common.{subst, ltb-true, None, if◌then◌else◌, Contains, cases_Bool, Player, Even, Odd, same_player, Graph, HasEdge}
 use Rattle.pg_finders.proofs.Common.{owner_of, successors_of, VertexSet, In, IsSubgame, Choices, kept, option_list, KeptEdge, ClosedWalk-weaker, own_or_other}
 use Rattle.pg_finders.proofs.Common.{same_is, is_same, Claim, ClaimRows, named, choice_in, IsGoodIn, Winners, won_inside, WinsOn, IsSolvedInside, AreClaims}
 use Rattle.pg_finders.proofs.Common.{own_choices, rows_below}
-use Rattle.std.specs.List.{AllByRecursion}
-use Rattle.pg_dominion.specs.Claim.{IsRightRow}
+use Rattle.std.specs.List.{All}
+use Rattle.std.proofs.lemmas.List.Elements.{All-nil, All-push, recursion_from_All}
+use Rattle.pg_dominion.specs.Claim.{AreRight, IsRightRow}
 use Rattle.pg_finders.proofs.Sets.{not_same, equal_from}
 use Rattle.pg_finders.proofs.SolvedSubgames.{kept_leads, choice_leads, Holds-subst}
 use Rattle.pg_finders.proofs.Rows.{RowsOf, rows_of_below}
@@ -27,20 +28,20 @@ Holds-own g U p X s t same h = record {
         subst (λ o. Contains (if same_player (owner_of g v) p then option_list o else successors_of g v) w) (same v i (same_is (owner_of g v) p y)) m
     as_old v w i m (inr n) = let a : HasEdge g v w = rw n at m in rw n a
 
--- each row is right
-each_right : (g : Graph) (p : Player) (X : VertexSet) (s : Choices) (i : ℕ) → ((v : ℕ) → In X v → IsRightRow g p (v, s v))
-    → AllByRecursion (IsRightRow g p) (rows_below X s i)
-each_right g p X s zero h = tt
-each_right g p X s (suc i) h = go (X i) refl (each_right g p X s i h)
-  where
-    push : (xs : ClaimRows) (r : ℕ × Option ℕ) → AllByRecursion (IsRightRow g p) xs → IsRightRow g p r → AllByRecursion (IsRightRow g p) (xs ++ r ∷ [])
-    push [] r a b = (b, tt)
-    push (x ∷ xs) r a b = (a.0, push xs r a.1 b)
+-- the rows of a set are right where what they say of each vertex is
+module _ (g : Graph) (p : Player) (X : VertexSet) (s : Choices) (right : (v : ℕ) → In X v → IsRightRow g p (v, s v)) where
+  each_right : (i : ℕ) → All (IsRightRow g p) (rows_below X s i)
+  each_right zero = All-nil (IsRightRow g p)
+  each_right (suc i) = elim (cases_Bool (X i)) [
+    | inl e ↦ rw e (All-push (IsRightRow g p) (rows_below X s i) (i, s i) (each_right i) (right i e))
+    | inr e ↦ rw e (each_right i)
+  ]
 
-    go : (b : Bool) → X i ≡ b → AllByRecursion (IsRightRow g p) (rows_below X s i)
-        → AllByRecursion (IsRightRow g p) (if b then rows_below X s i ++ (i, s i) ∷ [] else rows_below X s i)
-    go true e a = push (rows_below X s i) (i, s i) a (h i e)
-    go false e a = a
+  pub rows_right : (i : ℕ) → AreRight g p (rows_below X s i)
+  rows_right i = record {
+    each = recursion_from_All (IsRightRow g p) (rows_below X s i) (each_right i);
+    rising = (rows_of_below X s i).rising;
+  }
 
 module _ (g : Graph) (U : VertexSet) (p : Player) (X : VertexSet) (s : Choices) (held : WinsOn g U p X s) (inside : (v : ℕ) → In U v → v < length g) where
   abbrev t : Choices
@@ -67,9 +68,12 @@ module _ (g : Graph) (U : VertexSet) (p : Player) (X : VertexSet) (s : Choices) 
 
   pub good_rows : 0 < length rows → IsGoodIn g U p rows
   good_rows n = record {
-    shape = record {
-      nonempty = n;
-      right = record { each = each_right g p X t (length g) right; rising = facts.rising };
+    sound = record {
+      shape = record {
+        nonempty = n;
+        right = rows_right g p X t right (length g);
+      };
+      good = rows_held.good;
     };
     vertices = rows_held.within;
     choices = λ v w i e. elim (own_or_other (owner_of g v) p) [
@@ -80,7 +84,6 @@ module _ (g : Graph) (U : VertexSet) (p : Player) (X : VertexSet) (s : Choices) 
       | inl (o, m) ↦ (let c = rows_held.choices v k.0 o in subst (In (named rows)) (choice_leads (choice_in rows v) c.0 w c.1 m) c.3)
       | inr (o, e) ↦ rows_held.closed v w k.0 o e u
     ];
-    good = rows_held.good;
   }
 
 -- the players' rows of a plan that solves the subgame

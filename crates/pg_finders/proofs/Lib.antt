@@ -3,9 +3,7 @@ pub mod ClosedWalks
 pub mod Sets
 pub mod Masks
 pub mod DeadEnds
-pub mod Sizes
 pub mod Rows
-pub mod RowsByPlace
 pub mod GoodClaims
 pub mod SolvedSubgames
 pub mod KeptSubgames

@@ -1,4 +1,5 @@
 -- The search for small dominions: lemmas.
+pub mod FewRows
 pub mod Bits
 pub mod ChoiceCount
 pub mod LastVertex

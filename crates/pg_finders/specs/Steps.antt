@@ -1,12 +1,7 @@
 -- A bound on the steps that a run of the recursion still takes.
-use Rattle.std.specs.Prelude.{ℕ, zero, suc, ◌+◌, ◌-◌, Bool, if◌then◌else◌, List, [], ◌∷◌, length}
+use Rattle.std.specs.Prelude.{ℕ, zero, suc, ◌+◌, ◌-◌, List, [], ◌∷◌, length}
 use Rattle.pg_finders.specs.declared.recursion.Frame.{Frame}
 use Rattle.pg_finders.specs.declared.recursion.Solver.{Solver}
-
--- the number of vertices of a mask
-abbrev pub size : List Bool → ℕ
-size [] = 0
-size (b ∷ bits) = (if b then 1 else 0) + size bits
 
 -- the greatest number of steps for a subgame of this many vertices
 abbrev pub steps : ℕ → ℕ
@@ -27,6 +22,6 @@ steps_left n (f ∷ fs) = steps_after (n - (f.even + f.odd + f.set_aside)) + ste
 abbrev pub gone_from : Solver → ℕ
 gone_from x = length x.parts.settled.even.items + length x.parts.settled.odd.items + length x.set_aside.items
 
--- the greatest number of steps that remain with these levels, for a whole of n vertices
-abbrev pub work : ℕ → Solver → List Frame → ℕ
-work n x frames = steps (n - gone_from x) + steps_left n frames
+-- the greatest number of steps that remain, for a whole of n vertices
+abbrev pub work : ℕ → Solver → ℕ
+work n x = steps (n - gone_from x) + steps_left n x.frames.items

@@ -51,6 +51,7 @@ impl<'g> Inside<'g> {
         requires subgame { IsSubgame game.now (members mask) }
         ensures graph { result.graph ≡ game.now }
         ensures mask { result.mask ≡ mask }
+        ensures part { IsPart result }
     {
         Inside { game, mask }
     }

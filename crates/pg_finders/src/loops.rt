@@ -11,9 +11,11 @@ ghost use Rattle.pg_game.specs.Graph.{HasEdge, owner_of, priority_of};
 ghost use Rattle.pg_game.specs.VertexSet.{In, members};
 ghost use Rattle.pg_game.specs.Least.{NoneHas};
 ghost use Rattle.pg_dominion.specs.Claim.{IsGoodIn, named, choice_in};
-ghost use Rattle.pg_finders.specs.Claims.{own_choices, rows_below};
+ghost use Rattle.pg_finders.specs.Claims.{rows_below};
+ghost use Rattle.pg_dominion.specs.KeptEdges.{own_choices};
 ghost use Rattle.pg_finders.specs.Finding.{IsLoop};
 ghost use Rattle.pg_finders.specs.Jobs.{AreLoopsOf};
+ghost use Rattle.pg_finders.specs.Part.{IsPart};
 ghost use Rattle.pg_finders.specs.private.loops.Singles.{itself, loops};
 
 use crate::inside::{Inside, claim_of};
@@ -36,19 +38,6 @@ pub fn find_loop(
         (λ claim. (v : ℕ) → In (named claim.rows) v → owner_of inside.now.graph v ≡ player → choice_in claim.rows v ≡ Some v)) }
     ensures good { IfOk result (λ found. MatchOption found (Unit {0}) (λ claim. IsGoodIn inside.now.graph (members inside.now.mask) player claim.rows)) }
 {
-    let rows = rows_of_loops(alloc, inside, player)?;
-    Ok(claim_of_loops(inside, player, rows))
-}
-
-/// The rows of the vertices that are the player's dominions alone, each with itself as the choice where he owns it.
-fn rows_of_loops(
-    alloc: Global,
-    inside: &Inside,
-    player: Player,
-) -> Result<Vec<(u32, Option<u32>)>, AllocError>
-    ensures { IfOk result (λ rows. rows.items ≡ rows_below (loops inside.now.graph (members inside.now.mask) player)
-        (own_choices inside.now.graph player itself) (length inside.now.graph)) }
-{
     let game = inside.game();
     let mut rows = Vec::new(alloc);
     for v in 0..game.len() {
@@ -56,7 +45,7 @@ fn rows_of_loops(
             rows.push((v, own_choice(game.forward(), player, v, Some(v))))?;
         }
     }
-    Ok(rows)
+    Ok(claim_of_loops(inside, player, rows))
 }
 
 /// Whether a vertex alone is the player's dominion.
@@ -92,12 +81,11 @@ fn has_no_other_successor(inside: &Inside, v: u32) -> bool
 
 /// The claim of a player's rows of loops; none if there are none.
 fn claim_of_loops(inside: &Inside, player: Player, rows: Vec<(u32, Option<u32>)>) -> Option<Claim>
-    requires { rows.items ≡ rows_below (loops inside.now.graph (members inside.now.mask) player) (own_choices inside.now.graph player itself)
+    requires part { IsPart inside.now }
+    requires rows { rows.items ≡ rows_below (loops inside.now.graph (members inside.now.mask) player) (own_choices inside.now.graph player itself)
         (length inside.now.graph) }
     ensures { AreLoopsOf inside.now.graph (members inside.now.mask) player result }
 {
-    // for the proof: the part is a subgame
-    let _game = inside.game();
     if rows.is_empty() {
         return None;
     }

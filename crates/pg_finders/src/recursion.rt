@@ -7,21 +7,22 @@
 ghost use Rattle.std.specs.Prelude.{◌≡◌, length, IfOk, ◌≢◌, ◌≤◌, ◌+◌, ◌<◌, ◌^◌, take, ◌||◌, ℕ, All, ◌++◌, ◌∷◌, [], OnOk, true, false};
 ghost use Rattle.std.specs.Prelude.{None, Some, IsNone, IsSome, IfSome};
 ghost use Rattle.pg_game.specs.declared.player.Player.TheVariants.{Even, Odd};
-ghost use Rattle.pg_game.specs.VertexSet.{In, Within, members, union, without};
+ghost use Rattle.pg_game.specs.VertexSet.{In, Within, members, how_many, union, without};
 ghost use Rattle.pg_finders.specs.private.Solved.{won_inside, IsSolvedInside};
 ghost use Rattle.pg_finders.specs.private.recursion.Plans.{winners_of, choices_of, HasSize};
-ghost use Rattle.pg_finders.specs.Claims.{AreClaims, own_choices, rows_below};
+ghost use Rattle.pg_finders.specs.Claims.{AreClaims, rows_below};
+ghost use Rattle.pg_dominion.specs.KeptEdges.{own_choices};
 ghost use Rattle.pg_game.specs.Subgame.{IsSubgame};
 ghost use Rattle.pg_finders.specs.private.recursion.Listed.{listed};
 ghost use Rattle.pg_finders.specs.private.recursion.TakenVertices.{active_of};
 ghost use Rattle.pg_game.specs.Player.{opponent};
 ghost use Rattle.pg_finders.specs.private.recursion.Settled.{settled_of};
 ghost use Rattle.pg_finders.specs.private.recursion.OpenLevels.{count_at};
-ghost use Rattle.pg_finders.specs.private.recursion.SolverState.{IsSolverState, how_many_gone, AreFewer, HasStopped, after_step};
+ghost use Rattle.pg_finders.specs.private.recursion.SolverState.{IsSolverState, IsAtEnd, how_many_gone, AreFewer, HasStopped, after_step};
 ghost use Rattle.pg_finders.specs.private.recursion.Parts.{AreParts};
 ghost use Rattle.pg_finders.specs.private.recursion.Shrunk.{aside_of, greatest_of, Loses, Shrinks, WaitsAgain, Waits, WinsBack, KeepsLists};
 ghost use Rattle.pg_finders.specs.Recursion.{IfSolved, IfRunning};
-ghost use Rattle.pg_finders.specs.Steps.{size, steps as most_steps, work};
+ghost use Rattle.pg_finders.specs.Steps.{steps as most_steps, work};
 ghost use Rattle.std.specs.Arc.{arc_value};
 
 mod order;
@@ -64,7 +65,7 @@ pub fn zielonka_within(
 ) -> Result<Option<Solved>, Memory>
     ensures claims { IfOk result (λ found. IfSome found (λ solved. AreClaims inside.now.graph (members inside.now.mask) solved.even solved.odd)) }
     ensures unlimited { IfOk result (λ found. limit ≡ None → IsSome found) }
-    ensures enough { IfOk result (λ found. (k : ℕ) → limit ≡ Some k → most_steps (size inside.now.mask) ≤ k → IsSome found) }
+    ensures enough { IfOk result (λ found. (k : ℕ) → limit ≡ Some k → most_steps (how_many inside.now.mask) ≤ k → IsSome found) }
     ensures nothing { IfOk result (λ found. ((v : ℕ) → members inside.now.mask v ≡ false) → IsSome found) }
     ensures no_steps { IfOk result (λ found. limit ≡ Some 0 → (v : ℕ) → In (members inside.now.mask) v → IsNone found) }
 {
@@ -91,18 +92,18 @@ pub struct Recursion {
 impl Model for Recursion {
     ghost use Rattle.std.specs.Prelude.{length};
     ghost use Rattle.std.specs.Arc.{arc_value};
-    ghost use Rattle.pg_game.specs.VertexSet.{members};
+    ghost use Rattle.pg_game.specs.VertexSet.{members, how_many};
     ghost use Rattle.pg_game.specs.Subgame.{IsSubgame};
     ghost use Rattle.pg_finders.specs.Run.{Run};
-    ghost use Rattle.pg_finders.specs.Steps.{size as mask_size, work};
+    ghost use Rattle.pg_finders.specs.Steps.{work};
     ghost use Rattle.pg_finders.specs.private.recursion.SolverState.{IsSolverState};
 
     ghost Value = { Run };
 
-    ghost view = { λ r. record { graph = arc_value r.game; mask = r.mask; remaining = work (mask_size r.mask) r.solver r.solver.frames.items } };
+    ghost view = { λ r. record { graph = arc_value r.game; mask = r.mask; remaining = work (how_many r.mask) r.solver } };
 
     ghost invariant = { λ r. IsSubgame (arc_value r.game) (members r.mask)
-        × IsSolverState (arc_value r.game) r.mask r.solver r.solver.frames.items };
+        × IsSolverState (arc_value r.game) r.mask r.solver };
 }
 
 /// What a run of the recursion has come to. It has no `Debug`, since neither a run nor a claim has one.
@@ -173,9 +174,9 @@ struct Solver {
 impl Solver {
     /// No vertex is settled yet.
     fn new(alloc: Global, view: &View) -> Result<Solver, Memory>
-        ensures running { IfOk result (λ solver. IsSolverState view.now.game.now view.now.mask.now solver solver.frames.items) }
+        ensures running { IfOk result (λ solver. IsSolverState view.now.game.now view.now.mask.now solver) }
         ensures active { IfOk result (λ solver. solver.parts.subgame.active ≡ view.now.mask.now) }
-        ensures work { IfOk result (λ solver. work (size view.now.mask.now) solver solver.frames.items ≤ most_steps (size view.now.mask.now)) }
+        ensures work { IfOk result (λ solver. work (how_many view.now.mask.now) solver ≤ most_steps (how_many view.now.mask.now)) }
     {
         // Capacities are for all vertices that a list may get, as far as this is known. If a list outgrows a block below a KiB, the
         // allocator of glibc keeps that block, and does not return the memory below it to the system.
@@ -213,7 +214,7 @@ impl Solver {
         view: &View,
         left: &mut Option<u64>,
     ) -> Result<Option<Solved>, Memory>
-        requires { IsSolverState view.now.game.now view.now.mask.now self.old self.old.frames.items }
+        requires { IsSolverState view.now.game.now view.now.mask.now self.old }
         ensures claims { IfOk result (λ found. IfSome found (λ solved. AreClaims view.now.game.now (members view.now.mask.now) solved.even solved.odd)) }
         ensures stopped { IfOk result (λ found. IsNone found → HasStopped view.now.game.now view.now.mask.now left.old left.new self.old self.new) }
         ensures fewer { AreFewer left.old left.new }
@@ -234,7 +235,7 @@ impl Solver {
 
     /// Takes the steps that are left, or all where there is no limit. False if one more was needed; if true, the whole mask is planned.
     fn run(&mut self, view: &View, left: &mut Option<u64>) -> Result<bool, Memory>
-        requires { IsSolverState view.now.game.now view.now.mask.now self.old self.old.frames.items }
+        requires { IsSolverState view.now.game.now view.now.mask.now self.old }
         ensures solved { IfOk result (λ done. done ≡ true
             → IsSolvedInside view.now.game.now (members view.now.mask.now) (winners_of self.new.parts.subgame.plan) (choices_of self.new.parts.subgame.plan)) }
         ensures size { IfOk result (λ done. done ≡ true → HasSize (length view.now.game.now) self.new.parts.subgame.plan) }
@@ -250,7 +251,7 @@ impl Solver {
                 self.enter(view)?;
                 continue;
             }
-            let Some(frame) = self.frames.pop() else {
+            let Some(&frame) = self.frames.last() else {
                 break;
             };
             self.leave(view, frame)?;
@@ -260,11 +261,10 @@ impl Solver {
 
     /// Begins the active part: sets aside its vertices of the greatest priority and what they attract.
     fn enter(&mut self, view: &View) -> Result<(), Memory>
-        requires running { IsSolverState view.now.game.now view.now.mask.now self.old self.old.frames.items }
+        requires running { IsSolverState view.now.game.now view.now.mask.now self.old }
         requires some { (v : ℕ) × In (active_of self.old.parts.subgame) v }
-        ensures running { OnOk result (IsSolverState view.now.game.now view.now.mask.now self.new self.new.frames.items) }
-        ensures fewer { OnOk result (work (size view.now.mask.now) self.new self.new.frames.items < work (size view.now.mask.now) self.old
-            self.old.frames.items) }
+        ensures running { OnOk result (IsSolverState view.now.game.now view.now.mask.now self.new) }
+        ensures fewer { OnOk result (work (how_many view.now.mask.now) self.new < work (how_many view.now.mask.now) self.old) }
     {
         let active = &self.parts.subgame.active;
         let top = self.order.top(view.game, active).unwrap();
@@ -298,12 +298,10 @@ impl Solver {
 
     /// Whether a vertex is active: neither settled nor set aside.
     fn has_more(&self, view: &View) -> bool
-        requires { IsSolverState view.now.game.now view.now.mask.now self.now self.now.frames.items }
+        requires { IsSolverState view.now.game.now view.now.mask.now self.now }
         ensures some { result ≡ true → (v : ℕ) × In (active_of self.now.parts.subgame) v }
         ensures none { result ≡ false → (v : ℕ) → active_of self.now.parts.subgame v ≡ false }
     {
-        // for the proof: there are so few vertices that the numbers listed add up without overflow
-        let _n = view.game.len();
         self.gone() != self.size
     }
 
@@ -315,49 +313,41 @@ impl Solver {
         self.count(Player::Even) + self.count(Player::Odd) + self.set_aside.len()
     }
 
-    /// Finishes the subgame that waits there, which has no active vertex.
+    /// Finishes the subgame that waits last, which has no active vertex.
     fn leave(&mut self, view: &View, frame: Frame) -> Result<(), Memory>
-        requires running { IsSolverState view.now.game.now view.now.mask.now self.old (self.old.frames.items ++ frame ∷ []) }
-        requires done { (v : ℕ) → active_of self.old.parts.subgame v ≡ false }
-        ensures running { OnOk result (IsSolverState view.now.game.now view.now.mask.now self.new self.new.frames.items) }
-        ensures fewer { OnOk result (work (size view.now.mask.now) self.new self.new.frames.items < work (size view.now.mask.now) self.old
-            (self.old.frames.items ++ frame ∷ [])) }
+        requires { IsAtEnd view.now.game.now view.now.mask.now self.old frame }
+        ensures running { OnOk result (IsSolverState view.now.game.now view.now.mask.now self.new) }
+        ensures fewer { OnOk result (work (how_many view.now.mask.now) self.new < work (how_many view.now.mask.now) self.old) }
     {
         let other = frame.player.other();
         if self.count(other) == frame.count(other) {
-            self.close(view, frame)
+            self.settle_aside(view, frame)
         } else {
             self.resume(view, frame)
         }
     }
 
-    /// Settles the subgame that waits there for its player, who won its whole rest.
-    fn close(&mut self, view: &View, frame: Frame) -> Result<(), Memory>
-        requires running { IsSolverState view.now.game.now view.now.mask.now self.old (self.old.frames.items ++ frame ∷ []) }
-        requires done { (v : ℕ) → active_of self.old.parts.subgame v ≡ false }
+    /// Settles for its player what is set aside for the subgame that waits last. He won its whole rest.
+    fn settle_aside(&mut self, view: &View, frame: Frame) -> Result<(), Memory>
+        requires end { IsAtEnd view.now.game.now view.now.mask.now self.old frame }
         requires all { length (settled_of self.old.parts.settled (opponent frame.player)) ≡ count_at frame (opponent frame.player) }
-        ensures running { OnOk result (IsSolverState view.now.game.now view.now.mask.now self.new self.new.frames.items) }
-        ensures fewer { OnOk result (work (size view.now.mask.now) self.new self.new.frames.items < work (size view.now.mask.now) self.old
-            (self.old.frames.items ++ frame ∷ [])) }
+        ensures running { OnOk result (IsSolverState view.now.game.now view.now.mask.now self.new) }
+        ensures fewer { OnOk result (work (how_many view.now.mask.now) self.new < work (how_many view.now.mask.now) self.old) }
     {
-        // for the proof: there are so few vertices that each place in a list fits
-        let _n = view.game.len();
-        self.parts
-            .settled
-            .add_all(frame.player, &self.set_aside[frame.set_aside..])?;
+        let aside = frame.aside(&self.set_aside);
+        self.parts.settled.add_all(frame.player, aside)?;
         self.set_aside.truncate(frame.set_aside);
+        self.frames.pop();
         Ok(())
     }
 
-    /// Removes from the subgame that waits there what the opponent won and attracts. It waits again, unless its greatest vertices are
+    /// Removes from the subgame that waits last what the opponent won and attracts. It waits again, unless its greatest vertices are
     /// all among them. What its player has won stays won if nothing on which it rests has changed; the others are active.
     fn resume(&mut self, view: &View, frame: Frame) -> Result<(), Memory>
-        requires running { IsSolverState view.now.game.now view.now.mask.now self.old (self.old.frames.items ++ frame ∷ []) }
-        requires done { (v : ℕ) → active_of self.old.parts.subgame v ≡ false }
+        requires end { IsAtEnd view.now.game.now view.now.mask.now self.old frame }
         requires some { length (settled_of self.old.parts.settled (opponent frame.player)) ≢ count_at frame (opponent frame.player) }
-        ensures running { OnOk result (IsSolverState view.now.game.now view.now.mask.now self.new self.new.frames.items) }
-        ensures fewer { OnOk result (work (size view.now.mask.now) self.new self.new.frames.items < work (size view.now.mask.now) self.old
-            (self.old.frames.items ++ frame ∷ [])) }
+        ensures running { OnOk result (IsSolverState view.now.game.now view.now.mask.now self.new) }
+        ensures fewer { OnOk result (work (how_many view.now.mask.now) self.new < work (how_many view.now.mask.now) self.old) }
     {
         let tops = self.shrink(view, frame)?;
         self.wait_again(frame, tops)?;
@@ -369,8 +359,7 @@ impl Solver {
     /// Settles for the opponent what he attracts, lists what the greatest vertices that are left attract, and makes active what is
     /// neither listed nor still won. The number of these greatest vertices.
     fn shrink(&mut self, view: &View, frame: Frame) -> Result<usize, Memory>
-        requires running { IsSolverState view.now.game.now view.now.mask.now self.old (self.old.frames.items ++ frame ∷ []) }
-        requires done { (v : ℕ) → active_of self.old.parts.subgame v ≡ false }
+        requires { IsAtEnd view.now.game.now view.now.mask.now self.old frame }
         ensures shrinks { IfOk result (λ k. Shrinks view.now.game.now (members view.now.mask.now) frame self.old self.new k) }
     {
         let other = frame.player.other();
@@ -383,13 +372,13 @@ impl Solver {
         list_active(&self.parts.subgame.active, aside, &mut self.opened)?;
         self.parts.open(view.game, other, won, &mut self.opened)?;
         self.set_aside.truncate(frame.set_aside);
+        self.frames.pop();
         Ok(tops)
     }
 
     /// Makes active what is set aside last, and settles for the opponent what he attracts. What his player has won is free.
     fn lose(&mut self, view: &View, frame: Frame) -> Result<(), Memory>
-        requires running { IsSolverState view.now.game.now view.now.mask.now self.old (self.old.frames.items ++ frame ∷ []) }
-        requires done { (v : ℕ) → active_of self.old.parts.subgame v ≡ false }
+        requires { IsAtEnd view.now.game.now view.now.mask.now self.old frame }
         ensures loses { OnOk result (Loses view.now.game.now (members view.now.mask.now) frame self.old self.new) }
     {
         let other = frame.player.other();

@@ -16,7 +16,7 @@ use Rattle.pg_text.specs.Known.{KnownRows, is_winner, known_at, known_choice, ch
 use Rattle.pg_text.specs.Solution.{SolutionRows}
 use Rattle.pg_text.specs.declared.solution_text.Solution.{Solution}
 use Rattle.pg_board.specs.BoardRecord.{BoardRecord}
-use Rattle.pg_finders.specs.Claims.{own_choices}
+use Rattle.pg_dominion.specs.KeptEdges.{own_choices}
 use Rattle.pg_board.specs.State.{State, settled, winner_in, choices}
 use Rattle.pg_board.specs.Journal.{state_of, IsLawful}
 use Rattle.pg_board.specs.Board.{IsSolutionOf}

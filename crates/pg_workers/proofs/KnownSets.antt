@@ -14,7 +14,8 @@ use Rattle.pg_game.specs.declared.player.Player.{Player}
 use Rattle.pg_game.specs.declared.player.Player.TheVariants.{Even, Odd}
 use Rattle.pg_game.specs.Player.{opponent, same_player}
 use Rattle.pg_game.specs.Graph.{Graph, IsGame, owner_of}
-use Rattle.pg_game.specs.VertexSet.{VertexSet, In, all_vertices, no_vertices, union}
+use Rattle.pg_game.specs.VertexSet.{VertexSet, In, all_vertices, union}
+use Rattle.pg_dominion.specs.KeptEdges.{own_choices}
 use Rattle.pg_game.specs.Kept.{Choices, kept, KeptEdge}
 use Rattle.pg_game.specs.Attractor.{Attractor}
 use Rattle.pg_game.specs.Region.{IsRegion}
@@ -23,10 +24,9 @@ use Rattle.pg_game.proofs.Disjoint.{kept_own, kept_other}
 use Rattle.pg_game.proofs.Players.{is_same}
 use Rattle.pg_text.specs.Known.{KnownRows, known_of, known_choice}
 use Rattle.pg_dominion.specs.declared.claim.Claim.{Claim}
-use Rattle.pg_dominion.specs.Claim.{ClaimRows, named, choice_in}
-use Rattle.pg_finders.specs.Claims.{own_choices, rows_below}
+use Rattle.pg_dominion.specs.Claim.{ClaimRows, named, choice_in, vertices}
 use Rattle.pg_finders.proofs.GoodClaims.{good_rows}
-use Rattle.pg_finders.proofs.Rows.{RowsOf, rows_of_below, rows_until}
+use Rattle.pg_finders.proofs.Rows.{RowsOf, rows_of_below}
 use Rattle.pg_finders.proofs.Sets.{not_same, equal_from}
 use Rattle.pg_board.specs.declared.journal.Entry.{Entry}
 use Rattle.pg_board.specs.declared.journal.Posted.{Posted}
@@ -39,15 +39,16 @@ use Rattle.pg_board.specs.Post.{Adds, AnswersDominion, SettlesDominion, SettlesU
 use Rattle.pg_board.specs.Refusal.{Refuses}
 use Rattle.pg_board.proofs.Copies.{dominion_now}
 use Rattle.pg_dominion.proofs.Rows.{named_right}
-use Rattle.pg_board.proofs.Numbers.{in_vertices}
+use Rattle.pg_dominion.proofs.RowsByPlace.{in_vertices, named_at}
 use Rattle.pg_board.proofs.OpeningState.{none_distinct, no_region, attracts_none, lawful_none}
 use Rattle.pg_board.proofs.PushedEntry.{IsAdded, neither_open, once_rows, ours_named, claims_state}
-use Rattle.pg_board.proofs.Places.{named_at}
-use Rattle.pg_board.proofs.RestIsGood.{vertices, in_rest, named_rest}
+use Rattle.pg_board.proofs.RestIsGood.{in_rest, named_rest}
 use Rattle.pg_workers.specs.KnownRegions.{IsKnownRegion, KeepsKnown, known_rows, IsAttractedToKnown, HasCount, HasNone, IsBefore, IsSolveFault}
+use Rattle.pg_workers.specs.KnownRegions.{IsRefusedKnown, IsRefusedPost}
 use Rattle.pg_workers.specs.private.KnownPosts.{SettlesKnown, IsKnownFault, HasKnown, fault_of}
 use Rattle.pg_board.specs.Finish.{AreOfCaller, IsLater}
 use Rattle.pg_workers.specs.declared.known.SolveFault.{SolveFault}
+use Rattle.pg_workers.specs.declared.known.SolveFault.TheVariants as fault
 use Rattle.pg_board.proofs.OwnEntries.{both_of_caller, none_later, one_later, continued, keeps_state}
 
 -- what is known is known of vertices
@@ -60,11 +61,14 @@ known_below (r ∷ known) p (suc v) i = let h = known_below known p v i in omega
 pub unknown_beyond : (known : KnownRows) (p : Player) (v : ℕ) → length known ≤ v → known_of known p v ≡ false
 unknown_beyond known p v le = false_from_ne_true (known_of known p v) (λ i. let h = known_below known p v i in omega (arith, h, le))
 
-pub rows_to_last : (g : Graph) (known : KnownRows) (p : Player) → length known ≤ length g
-    → rows_below (known_of known p) (own_choices g p (known_choice known)) (length known) ≡ known_rows g known p
-rows_to_last g known p sized =
-    sym (rows_until (known_of known p) (own_choices g p (known_choice known)) (length known) (length g) sized
-    (λ v i low high. let h = known_below known p v i in omega (arith, h, low)))
+-- a set without vertices is a region, and attracts none
+module _ (g : Graph) (game : IsGame g) (known : KnownRows) (p : Player) (none : (v : ℕ) → known_of known p v ≡ false) where
+  pub empty_region : IsKnownRegion g known p
+  empty_region = subst (λ (X : VertexSet). IsRegion g p X (known_choice known)) (sym (fun_ext none)) (no_region g p (known_choice known))
+
+  pub none_attracted : (v : ℕ) → IsAttractedToKnown g known p v → ⊥
+  none_attracted v a =
+      let h : false ≡ true = attracts_none g game p v (subst (λ (X : VertexSet). Attractor g p (all_vertices g) X v) (fun_ext none) a) in cc h
 
 -- the vertices of rows as a list
 in_rows : (rows : ClaimRows) (v : ℕ) → Contains (vertices rows) v ↔ In (named rows) v
@@ -118,32 +122,31 @@ module _ (g : Graph) (game : IsGame g) (known : KnownRows) (sized : length known
 
   -- where no vertex is known, there is nothing to post
   module _ (empty : length rows ≡ 0) where
-    none_known : K ≡ no_vertices
-    none_known = fun_ext (λ v. sym (rows_named v) ∙ subst (λ (xs : ClaimRows). named xs v ≡ false) (sym (nil_from_length rows empty)) refl)
+    none_known : (v : ℕ) → K v ≡ false
+    none_known v = sym (rows_named v) ∙ subst (λ (xs : ClaimRows). named xs v ≡ false) (sym (nil_from_length rows empty)) refl
 
-    empty_region : IsKnownRegion g known p
-    empty_region = subst (λ (X : VertexSet). IsRegion g p X s) (sym none_known) (no_region g p s)
+    pub region_of_none : IsKnownRegion g known p
+    region_of_none = empty_region g game known p none_known
 
-    none_attracted : (v : ℕ) → IsAttractedToKnown g known p v → ⊥
-    none_attracted v a =
-        (let h : false ≡ true = attracts_none g game p v (subst (λ (X : VertexSet). Attractor g p (all_vertices g) X v) none_known a) in cc h)
+    nothing_attracted : (v : ℕ) → IsAttractedToKnown g known p v → ⊥
+    nothing_attracted = none_attracted g game known p none_known
 
     none_counted : HasCount (IsAttractedToKnown g known p) 0
     none_counted = record {
       numbers = [];
       distinct = none_distinct;
-      all = λ v. (λ m. absurd (omega (arith, m.1)), λ a. absurd (none_attracted v a));
+      all = λ v. (λ m. absurd (omega (arith, m.1)), λ a. absurd (nothing_attracted v a));
       size = refl;
     }
 
     none_states : (journal : Journal) (v : ℕ) → In K v → state_of journal v ≡ Some (p, own_choices g p s v)
-    none_states journal v i = absurd (let h : false ≡ true = sym (ap (λ (X : VertexSet). X v) none_known) ∙ i in cc h)
+    none_states journal v i = absurd (let h : false ≡ true = sym (none_known v) ∙ i in cc h)
 
     pub settles_nothing : (journal : Journal) → HasNone journal p
         → SettlesKnown (record { graph = g; journal = journal }) (record { graph = g; journal = journal }) known p
     settles_nothing journal none =
         let later = none_later (record { graph = g; journal = journal }) (record { graph = g; journal = journal }) (p ∷ []) refl in
-        grind (arith, empty_region, none_attracted, none_counted, none_states, later)
+        grind (arith, region_of_none, nothing_attracted, none_counted, none_states, later)
 
   module _ (journal : Journal) (none : HasNone journal p) where
     abbrev st : State
@@ -160,7 +163,7 @@ module _ (g : Graph) (game : IsGame g) (known : KnownRows) (sized : length known
     good_region good = record {
       vertices = λ v i. lt-ltb v (length g) (inside v i);
       choices =
-          λ v i o. (let c = (named_right g p rows v good.shape.right.each (to_rows v i)).own o in
+          λ v i o. (let c = (named_right g p rows v good.sound.shape.right.each (to_rows v i)).own o in
           (c.0, sym (own_choice v i (is_same (owner_of g v) p o)) ∙ c.1, c.2));
       closed = λ v w k.
           (let i = to_rows v k.0 in
@@ -168,7 +171,7 @@ module _ (g : Graph) (game : IsGame g) (known : KnownRows) (sized : length known
           let h = good.closed v w (to_rest st rows v i (open_named v i (good.not_lost v i)), m) in
           search (rules, st, rows, inside, or-false, rows_named, in_rest));
       good =
-          λ walk c. good.good walk (ClosedWalk-weaker (KeptEdge g p K s) (KeptEdge g p (named rows) (choice_in rows))
+          λ walk c. good.sound.good walk (ClosedWalk-weaker (KeptEdge g p K s) (KeptEdge g p (named rows) (choice_in rows))
           (λ v w k. (to_rows v k.0, subst (λ (xs : List ℕ). Contains xs w) (sym (same_kept v k.0)) k.1)) walk c);
     }
 
@@ -213,7 +216,7 @@ module _ (g : Graph) (game : IsGame g) (known : KnownRows) (sized : length known
         later = one_later here new (record { player = p; rows = rows }) posted same adds
 
         settles : SettlesDominion here new p rows
-        settles = (old 0 (region_dominion (good_region good) good.shape.nonempty journal)).1
+        settles = (old 0 (region_dominion (good_region good) good.sound.shape.nonempty journal)).1
 
         own : (v : ℕ) → In (settled (state_of new.journal) p) v ↔ IsAttractedToKnown g known p v
         own v = subst (λ (X : VertexSet). In (settled (state_of new.journal) p) v ↔ Attractor g p (all_vertices g) X v) union_known (settles.own v)
@@ -247,10 +250,34 @@ module _ (g : Graph) (game : IsGame g) (known : KnownRows) (sized : length known
         × SettlesUnlessMemory here new claim.player claim.rows (Err e))
 
     -- a refused set is no region, and not stale
-    pub refused_known : (new : BoardRecord) (e : Refusal) (claim : Claim) → claim.player ≡ p → claim.rows ≡ rows → 0 < length claim.rows
-        → Refuted new e claim → IsKnownFault g journal known p (fault_of p e)
-    refused_known new e claim player is n refuted =
+    abbrev IsRefusedFor : SolveFault → Type 0
+    IsRefusedFor fault.Memory = Unit {0}
+    IsRefusedFor (fault.Known q e) = (q ≡ p) × IsRefusedKnown g journal known p e
+
+    refused_for : (new : BoardRecord) (e : Refusal) (claim : Claim) → claim.player ≡ p → claim.rows ≡ rows → 0 < length claim.rows
+        → Refuted new e claim → IsRefusedFor (fault_of p e)
+    refused_for new e claim player is n refuted =
         (grind (arith, never_stale, region_dominion))
+
+    of_lawful : IsLawful g journal → (f : SolveFault) → IsRefusedFor f → IsKnownFault g journal known p f
+    of_lawful lawful fault.Memory h = tt
+    of_lawful lawful (fault.Known q e) (same, refused) = (same, lawful, refused)
+
+    pub refused_known : IsLawful g journal → (new : BoardRecord) (e : Refusal) (claim : Claim) → claim.player ≡ p → claim.rows ≡ rows
+        → 0 < length claim.rows → Refuted new e claim → IsKnownFault g journal known p (fault_of p e)
+    refused_known lawful new e claim player is n refuted = of_lawful lawful (fault_of p e) (refused_for new e claim player is n refuted)
+
+-- a refused post on the board before it is a fault of the run
+pub post_fault : (g : Graph) (known : KnownRows) (p : Player) (before : BoardRecord) → before.graph ≡ g → IsBefore g known p before.journal
+    → (e : SolveFault) → IsKnownFault before.graph before.journal known p e → IsSolveFault g known e
+post_fault g known p before same is fault.Memory h = tt
+post_fault g known p before same is (fault.Known q e) (player, lawful, refused) =
+    subst (λ (r : Player). IsRefusedPost g known r e) (sym player) (record {
+      journal = before.journal;
+      lawful = subst (λ (k : Graph). IsLawful k before.journal) same lawful;
+      before = is;
+      refused = subst (λ (k : Graph). IsRefusedKnown k before.journal known p e) same refused;
+    })
 
 module _ (g : Graph) (known : KnownRows) (opened mid : BoardRecord) (here : opened.graph ≡ g) (new_board : opened.journal ≡ [])
     (first : SettlesKnown opened mid known Even) where
@@ -262,10 +289,10 @@ module _ (g : Graph) (known : KnownRows) (opened mid : BoardRecord) (here : open
     λ v. first.other v ∙ ap (λ (j : Journal). settled (state_of j) Odd v) new_board,
   )
 
-  pub odd_fault : mid.graph ≡ g → IsLawful mid.graph mid.journal → (r : Result BoardRecord SolveFault) → IfErr r (IsKnownFault g mid.journal known Odd)
+  pub odd_fault : mid.graph ≡ g → (r : Result BoardRecord SolveFault) → IfErr r (IsKnownFault mid.graph mid.journal known Odd)
       → IfErr r (IsSolveFault g known)
-  odd_fault same lawful (Ok new) h = tt
-  odd_fault same lawful (Err e) h = search (rules, before_odd)
+  odd_fault same (Ok new) h = tt
+  odd_fault same (Err e) h = post_fault g known Odd mid same before_odd e h
 
   pub has_known : mid.graph ≡ g → (r : Result BoardRecord SolveFault) → IfOk r (λ new. SettlesKnown mid new known Odd)
       → IfOk r (λ new. HasKnown g known new.journal)

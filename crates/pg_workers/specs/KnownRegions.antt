@@ -1,5 +1,5 @@
 -- What is known of a game before it is solved, as regions: what a run keeps of it, and why it refuses a set that is none.
-use Rattle.std.specs.Prelude.{ℕ, ◌≡◌, ◌+◌, ◌↔◌, false, List, [], length, nat_eq, Some}
+use Rattle.std.specs.Prelude.{ℕ, ◌≡◌, ◌<◌, ◌+◌, ◌↔◌, false, List, [], length, nat_eq, Some, option_map, slice_get}
 use Rattle.std.specs.List.{Contains, IsDistinct}
 use Rattle.pg_game.specs.declared.player.Player.{Player}
 use Rattle.pg_game.specs.declared.player.Player.TheVariants.{Even, Odd}
@@ -9,7 +9,9 @@ use Rattle.pg_game.specs.Attractor.{Attractor}
 use Rattle.pg_game.specs.Region.{IsRegion}
 use Rattle.pg_text.specs.Known.{KnownRows, known_of, known_choice}
 use Rattle.pg_dominion.specs.Claim.{ClaimRows}
-use Rattle.pg_finders.specs.Claims.{own_choices, rows_below}
+use Rattle.pg_finders.specs.Claims.{rows_below}
+use Rattle.pg_dominion.specs.KeptEdges.{own_choices}
+use Rattle.pg_dominion.specs.declared.claim.ClaimFault.TheVariants.{Shape, Cycle}
 use Rattle.pg_board.specs.declared.journal.Refusal.{Refusal}
 use Rattle.pg_board.specs.declared.journal.Refusal.TheVariants as refusal
 use Rattle.pg_board.specs.State.{State, settled}
@@ -17,6 +19,8 @@ use Rattle.pg_board.specs.Journal.{Journal, state_of, IsLawful}
 use Rattle.pg_board.specs.Refusal.{Refuses}
 use Rattle.pg_workers.specs.declared.known.SolveFault.{SolveFault}
 use Rattle.pg_workers.specs.declared.known.SolveFault.TheVariants as fault
+use Rattle.pg_workers.specs.declared.known.KnownFault.{KnownFault}
+use Rattle.pg_workers.specs.declared.known.KnownFault.TheVariants as known_fault
 
 -- the player's known set is a region of his, with the known choices
 abbrev pub IsKnownRegion : Graph → KnownRows → Player → Type 0
@@ -85,3 +89,22 @@ pub record IsRefusedPost (g : Graph) (known : KnownRows) (p : Player) (e : Refus
 abbrev pub IsSolveFault : Graph → KnownRows → SolveFault → Type 0
 IsSolveFault g known fault.Memory = Unit {0}
 IsSolveFault g known (fault.Known p e) = IsRefusedPost g known p e
+
+-- the fault gives the reason to refuse the claim of these rows
+abbrev pub Names : ClaimRows → Refusal → KnownFault → Type 0
+Names rows (refusal.Claim (Shape i)) (known_fault.Choice v) = option_map (λ r. r.0) (slice_get rows i) ≡ Some v
+Names rows (refusal.Claim (Cycle v)) (known_fault.Cycle u) = u ≡ v
+Names rows (refusal.Lost v) (known_fault.Lost u) = u ≡ v
+Names rows (refusal.Open v w) (known_fault.Open u x) = (u ≡ v) × (x ≡ w)
+Names rows _ _ = ⊥
+
+-- the fault is about vertices of the game
+abbrev pub NamesVertices : Graph → KnownFault → Type 0
+NamesVertices g (known_fault.Choice v) = v < length g
+NamesVertices g (known_fault.Cycle v) = v < length g
+NamesVertices g (known_fault.Lost v) = v < length g
+NamesVertices g (known_fault.Open v w) = (v < length g) × (w < length g)
+
+-- a player's known set is no region, and this is the reason to refuse its post
+abbrev pub IsRefusedSet : Graph → KnownRows → KnownFault → Type 0
+IsRefusedSet g known f = (p : Player) × (e : Refusal) × IsSolveFault g known (fault.Known p e) × Names (known_rows g known p) e f

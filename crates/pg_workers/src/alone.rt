@@ -1,7 +1,7 @@
 //! Solving in the calling thread: what is known, and then a board that settles all the rest itself (`Board::finish`). A static
 //! library solves so, since it may start no thread.
 
-ghost use Rattle.std.specs.Prelude.{◌≡◌, slice_get, IfOk, IfErr, IfSome, IsNone, Some, Option, ℕ};
+ghost use Rattle.std.specs.Prelude.{◌≡◌, length, slice_get, IfOk, IfErr, IfSome, IsNone, Some, Option, ℕ};
 ghost use Rattle.pg_game.specs.declared.player.Player.{Player};
 ghost use Rattle.pg_board.specs.Journal.{state_of};
 ghost use Rattle.pg_board.specs.Finish.{MayGiveUp, number_unsettled};
@@ -15,18 +15,21 @@ use pg_text::Solution;
 use std::alloc::Global;
 
 /// The same as `solve_game` in the calling thread: it starts no thread and waits for nothing. It posts Even's known set and
-/// then Odd's, and solves the board. What is known keeps its winners and choices. The errors are those of `solve_game`.
-pub fn solve_alone(alloc: Global, of: &KnownOf<'_>) -> Result<Solution, SolveFault>
-    ensures exact { IfOk result (λ s. IsExactSolution of.now.game.now s.rows) }
-    ensures regions { IfOk result (λ s. (p : Player) → IsKnownRegion of.now.game.now of.now.known.now.rows p) }
-    ensures kept { IfOk result (λ s. KeepsKnown of.now.game.now of.now.known.now.rows (λ v. slice_get s.rows v)) }
+/// then Odd's, and solves the board. What is known keeps its winners and choices. None if there is a limit and the board gave
+/// up. The errors are those of `solve_game`.
+pub fn solve_alone(
+    alloc: Global,
+    of: &KnownOf<'_>,
+    limit: Option<u64>,
+) -> Result<Option<Solution>, SolveFault>
+    ensures exact { IfOk result (λ found. IfSome found (λ s. IsExactSolution of.now.game.now s.rows)) }
+    ensures regions { IfOk result (λ found. (p : Player) → IsKnownRegion of.now.game.now of.now.known.now.rows p) }
+    ensures kept { IfOk result (λ found. IfSome found (λ s. KeepsKnown of.now.game.now of.now.known.now.rows (λ v. slice_get s.rows v))) }
+    ensures limited { IfOk result (λ found. IsNone found → MayGiveUp limit (length of.now.game.now)) }
     ensures fault { IfErr result (λ e. IsSolveFault of.now.game.now of.now.known.now.rows e) }
 {
     let board = board_with(alloc, of)?;
-    match solve_board(alloc, board, None)? {
-        Some(solution) => Ok(solution),
-        None => unreachable!(),
-    }
+    Ok(solve_board(alloc, board, limit)?)
 }
 
 /// The solution of a board's game by `Board::finish`. A settled vertex keeps its winner and its choice. None if there is a limit

@@ -1,12 +1,13 @@
 //! What the calling thread posts before a worker starts, as worker 0: what is known of the game, Even's claim and then Odd's.
 
-ghost use Rattle.std.specs.Prelude.{◌≡◌, ◌≤◌, ◌<◌, ◌↔◌, length, IfOk, IfErr, IsTrue};
+ghost use Rattle.std.specs.Prelude.{◌≡◌, ◌≤◌, ◌<◌, ◌↔◌, length, Some, IfOk, IfErr, IsTrue, option_map, slice_get};
+ghost use Rattle.pg_text.specs.Known.{known_at};
 ghost use Rattle.pg_board.specs.Journal.{state_of};
-ghost use Rattle.pg_workers.specs.KnownRegions.{known_rows, HasNone, IsSolveFault, KeepsKnown};
+ghost use Rattle.pg_workers.specs.KnownRegions.{known_rows, HasNone, IsSolveFault, KeepsKnown, Names, NamesVertices};
 ghost use Rattle.pg_workers.specs.private.KnownPosts.{fault_of, HasKnown, IsKnownFault, KeepsRow, SettlesKnown};
 
 use pg_board::{Board, Refusal};
-use pg_dominion::{Claim, own_choice};
+use pg_dominion::{Claim, ClaimFault, own_choice};
 use pg_game::{Game, Memory, Player, Sequence};
 use pg_text::Known;
 use std::alloc::Global;
@@ -31,6 +32,59 @@ impl From<Memory> for SolveFault {
     }
 }
 
+/// Why a player's known set is no region, by vertices: the reason of the refused post.
+#[derive(Clone, Copy, Debug, Drop, PartialEq, Eq)]
+pub enum KnownFault {
+    /// The first vertex that the player owns without a choice, or with one that is no successor.
+    Choice(u32),
+    /// The least vertex with the opponent's parity that is the greatest on a closed walk of kept edges inside the set.
+    Cycle(u32),
+    /// The least vertex of the set that the opponent attracts to his own known set.
+    Lost(u32),
+    /// The first kept edge that leads out of the set.
+    Open(u32, u32),
+}
+
+/// The fault of the player's known set, whose post was refused for this reason.
+pub fn known_fault(of: &KnownOf<'_>, player: Player, refusal: Refusal) -> KnownFault
+    requires { IsSolveFault of.now.game.now of.now.known.now.rows (SolveFault.Known player refusal) }
+    ensures reason { Names (known_rows of.now.game.now of.now.known.now.rows player) refusal result }
+    ensures vertices { NamesVertices of.now.game.now result }
+{
+    // for the proof: the graph is a game, so edges end at vertices
+    let _n = of.game.len();
+    match refusal {
+        Refusal::Claim(ClaimFault::Shape(row)) => {
+            KnownFault::Choice(vertex_in_row(of, player, row))
+        }
+        Refusal::Claim(ClaimFault::Cycle(v)) => KnownFault::Cycle(v),
+        Refusal::Lost(v) => KnownFault::Lost(v),
+        Refusal::Open(v, w) => KnownFault::Open(v, w),
+        Refusal::Claim(ClaimFault::Memory) => unreachable!(),
+        Refusal::Foreign(_) | Refusal::Stale | Refusal::Memory => unreachable!(),
+    }
+}
+
+/// The vertex in a row of the player's known set: of his known vertices, in order, the one with this many before it.
+fn vertex_in_row(of: &KnownOf<'_>, player: Player, row: u32) -> u32
+    requires { row < length (known_rows of.now.game.now of.now.known.now.rows player) }
+    ensures vertex { result < length of.now.game.now }
+    ensures row { option_map (λ r. r.0) (slice_get (known_rows of.now.game.now of.now.known.now.rows player) row) ≡ Some result }
+{
+    let mut before = 0u32;
+    for v in 0..of.game.len() {
+        if let Some((winner, _)) = known_at(of.known, v) {
+            if winner == player {
+                if before == row {
+                    return v;
+                }
+                before += 1;
+            }
+        }
+    }
+    unreachable!()
+}
+
 /// A game, and what is known of it: no more rows than there are vertices.
 #[derive(Clone, Copy)]
 pub struct KnownOf<'x> {
@@ -46,29 +100,24 @@ pub(crate) fn board_with<'g>(alloc: Global, of: &KnownOf<'g>) -> Result<Board<'g
     ensures fault { IfErr result (λ e. IsSolveFault of.now.game.now of.now.known.now.rows e) }
 {
     let board = Board::open(alloc, of.game)?;
-    // for the proof, here and below: reading the board gives that its journal is lawful
-    let _opened = board.game();
-    let with_even = with_known(alloc, board, of, Player::Even)?;
-    let _posted = with_even.game();
-    with_known(alloc, with_even, of, Player::Odd)
+    let with_even = with_known(alloc, board, of.known, Player::Even)?;
+    with_known(alloc, with_even, of.known, Player::Odd)
 }
 
 /// The board with a post of the player's known set as worker 0, unless the set is empty.
 fn with_known<'g>(
     alloc: Global,
     mut board: Board<'g>,
-    of: &KnownOf<'g>,
+    known: &Known,
     player: Player,
 ) -> Result<Board<'g>, SolveFault>
-    requires game { board.graph ≡ of.now.game.now }
+    requires size { length known.now.rows ≤ length board.graph }
     requires none { HasNone board.journal player }
-    ensures graph { IfOk result (λ b. b.graph ≡ of.now.game.now) }
-    ensures settles { IfOk result (λ b. SettlesKnown board.entry b of.now.known.now.rows player) }
-    ensures fault { IfErr result (λ e. IsKnownFault of.now.game.now board.entry.journal of.now.known.now.rows player e) }
+    ensures graph { IfOk result (λ b. b.graph ≡ board.entry.graph) }
+    ensures settles { IfOk result (λ b. SettlesKnown board.entry b known.now.rows player) }
+    ensures fault { IfErr result (λ e. IsKnownFault board.entry.graph board.entry.journal known.now.rows player e) }
 {
-    // for the proof: the game is one, and the board's journal is lawful
-    let _before = board.game();
-    let claim = known_claim(alloc, of, player)?;
+    let claim = known_claim(alloc, board.game(), known, player)?;
     if claim.rows.as_slice().is_empty() {
         return Ok(board);
     }
@@ -82,9 +131,7 @@ fn with_known<'g>(
 pub(crate) fn keeps_known(board: &Board<'_>, of: &KnownOf<'_>) -> bool
     ensures { IsTrue result ↔ KeepsKnown of.now.game.now of.now.known.now.rows (state_of board.now.journal) }
 {
-    // for the proof: there are no more rows than vertices, whose number fits
-    let _n = of.game.len();
-    for v in 0..of.known.rows.as_slice().len() as u32 {
+    for v in 0..of.game.len() {
         if !keeps_row(board, of, v) {
             return false;
         }
@@ -94,10 +141,10 @@ pub(crate) fn keeps_known(board: &Board<'_>, of: &KnownOf<'_>) -> bool
 
 /// The same for one vertex.
 fn keeps_row(board: &Board<'_>, of: &KnownOf<'_>, v: u32) -> bool
-    requires { v < length of.now.known.now.rows }
+    requires { v < length of.now.game.now }
     ensures { IsTrue result ↔ KeepsRow of.now.game.now of.now.known.now.rows (state_of board.now.journal) v }
 {
-    match of.known.rows.as_slice()[v as usize] {
+    match known_at(of.known, v) {
         Some(row) => {
             let own = own_choice(of.game.forward(), row.0, v, row.1);
             board.winner(v) == Some(row.0) && board.choice(v) == own
@@ -107,18 +154,15 @@ fn keeps_row(board: &Board<'_>, of: &KnownOf<'_>, v: u32) -> bool
 }
 
 /// The player's known set as a claim: only his own vertices have choices.
-fn known_claim(alloc: Global, of: &KnownOf<'_>, player: Player) -> Result<Claim, Memory>
+fn known_claim(alloc: Global, game: &Game, known: &Known, player: Player) -> Result<Claim, Memory>
     ensures player { IfOk result (λ claim. claim.player ≡ player) }
-    ensures rows { IfOk result (λ claim. claim.rows ≡ known_rows of.now.game.now of.now.known.now.rows player) }
+    ensures rows { IfOk result (λ claim. claim.rows ≡ known_rows game.now known.now.rows player) }
 {
-    // for the proof: there are no more rows than vertices, whose number fits
-    let _n = of.game.len();
-    let of_vertices = of.known.rows.as_slice();
     let mut rows = Vec::new(alloc);
-    for v in 0..of_vertices.len() as u32 {
-        if let Some((winner, choice)) = of_vertices[v as usize] {
+    for v in 0..game.len() {
+        if let Some((winner, choice)) = known_at(known, v) {
             if winner == player {
-                rows.push((v, own_choice(of.game.forward(), player, v, choice)))?;
+                rows.push((v, own_choice(game.forward(), player, v, choice)))?;
             }
         }
     }
@@ -126,6 +170,15 @@ fn known_claim(alloc: Global, of: &KnownOf<'_>, player: Player) -> Result<Claim,
         player,
         rows: Sequence::new(rows),
     })
+}
+
+/// What is known of the vertex.
+fn known_at(known: &Known, v: u32) -> Option<(Player, Option<u32>)>
+    ensures { result ≡ known_at known.now.rows v }
+{
+    let at = v as usize;
+    let rows = known.rows.as_slice();
+    if at < rows.len() { rows[at] } else { None }
 }
 
 /// The fault of a run after a refused post of the player's known set.

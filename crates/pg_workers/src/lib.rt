@@ -12,7 +12,7 @@ mod worker;
 
 pub use alone::{solve_alone, solve_board};
 pub use jobs::{Drawn, Jobs, Ticket};
-pub use known::{KnownOf, SolveFault};
+pub use known::{KnownFault, KnownOf, SolveFault, known_fault};
 pub use pg_board::{BUDGET, Options};
 pub use report::ReportRow;
 pub use solve::{Outcome, solve_game};

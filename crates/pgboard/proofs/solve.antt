@@ -2,7 +2,5 @@
 pub mod JournalRows
 pub mod KnownTexts
 pub mod EmptyText
-pub mod RefusedSets
-pub mod SetRows
 pub mod ExactSolutions
 pub mod NothingKnown

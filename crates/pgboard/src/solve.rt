@@ -1,31 +1,28 @@
 //! The runs that solve a game, from what is known of it or from nothing, over any sources and sink. A fault names vertices by
 //! their identifiers.
 
-ghost use Rattle.std.specs.Prelude.{◌≡◌, ◌≤◌, ◌⊎◌, [], length, Some, None, IfOk, IfErr, ◌<◌, option_map, slice_get};
+ghost use Rattle.std.specs.Prelude.{◌≡◌, ◌≤◌, ◌⊎◌, [], length, None, IfOk, IfErr, slice_get};
 ghost use Rattle.pg_game.specs.declared.player.Player.{Player};
 ghost use Rattle.pg_game.specs.Graph.{Graph, IsGame};
 ghost use Rattle.pg_board.specs.Work.{total_of};
-ghost use Rattle.pg_workers.specs.KnownRegions.{known_rows, IsKnownRegion, IsSolveFault, KeepsKnown};
+ghost use Rattle.pg_workers.specs.KnownRegions.{IsKnownRegion, IsSolveFault, KeepsKnown, NamesVertices};
 ghost use Rattle.pg_workers.specs.Outcomes.{IsOutcome};
 ghost use Rattle.pgboard.specs.Device.{HasFailed};
 ghost use Rattle.pgboard.specs.KnownSource.{left_in, IfGiven, OnGiven};
-ghost use Rattle.pgboard.specs.Refused.{IsNotKnown, Names};
+ghost use Rattle.pgboard.specs.Refused.{by_identifiers, IsNotKnown};
 ghost use Rattle.pgboard.specs.private.Refused.{IsUnsolved};
 ghost use Rattle.pgboard.specs.Run.{IsReadGame, IsNoGame, Reads, ReadsInTurn, Writes};
 ghost use Rattle.pgboard.specs.Solving.{IsSolveText, IsSolveOutput, IsTraceText};
-ghost use Rattle.pg_text.specs.Known.{known_of};
 ghost use Rattle.pg_text.specs.Solution.{IsExactSolution};
 
 use crate::device::{Sink, Source, write_all};
 use crate::fault::{KnownFault, RunFault};
 use crate::reading::{game_from, known_from, nothing_known};
 use crate::trace::write_trace;
-use pg_board::Refusal;
-use pg_dominion::ClaimFault;
 use pg_finders::Finder;
-use pg_game::{Game, Memory, Player};
-use pg_text::{Known, Solution, write_solution, write_winners};
-use pg_workers::{BUDGET, Gate, KnownOf, Options, Outcome, SolveFault, solve_game};
+use pg_game::{Game, Memory};
+use pg_text::{Solution, write_solution, write_winners};
+use pg_workers::{BUDGET, Gate, KnownOf, Options, Outcome, SolveFault, known_fault, solve_game};
 use std::alloc::Global;
 use std::sync::Wait;
 use std::thread::Threads;
@@ -157,66 +154,23 @@ fn unsolved(of: &KnownOf<'_>, fault: SolveFault) -> RunFault
     ensures { IsUnsolved of.now.game.now of.now.known.now.rows result }
 {
     match fault {
-        SolveFault::Known(player, refusal) => RunFault::Known(known_fault(of, player, refusal)),
+        SolveFault::Known(player, refusal) => {
+            RunFault::Known(by_identifiers(of.game, known_fault(of, player, refusal)))
+        }
         SolveFault::Memory => RunFault::Memory,
     }
 }
 
-/// The reason of the refused post of a player's known set, by identifiers.
-fn known_fault(of: &KnownOf<'_>, player: Player, refusal: Refusal) -> KnownFault
-    requires { IsSolveFault of.now.game.now of.now.known.now.rows (SolveFault.Known player refusal) }
-    ensures { Names of.now.game.now (known_rows of.now.game.now of.now.known.now.rows player) refusal result }
+/// The fault of a known set, with the identifiers of its vertices.
+fn by_identifiers(game: &Game, fault: pg_workers::KnownFault) -> KnownFault
+    requires { NamesVertices game.now fault }
+    ensures { result ≡ by_identifiers game.now fault }
 {
-    let game = of.game;
-    // for the proof alone, which takes from it that the game is one
-    let _n = game.len();
-    match refusal {
-        Refusal::Claim(ClaimFault::Shape(row)) => {
-            let v = vertex_in_row(of, player, row);
-            KnownFault::Choice(game.id(v))
-        }
-        Refusal::Claim(ClaimFault::Cycle(v)) => KnownFault::Cycle(game.id(v)),
-        Refusal::Lost(v) => KnownFault::Lost(game.id(v)),
-        Refusal::Open(v, w) => {
-            let from = game.id(v);
-            let to = game.id(w);
-            KnownFault::Open(from, to)
-        }
-        Refusal::Claim(ClaimFault::Memory) => unreachable!(),
-        Refusal::Foreign(_) | Refusal::Stale | Refusal::Memory => unreachable!(),
-    }
-}
-
-/// The vertex in a row of the player's known set: of his known vertices, in order, the one with this many before it.
-fn vertex_in_row(of: &KnownOf<'_>, player: Player, row: u32) -> u32
-    requires { row < length (known_rows of.now.game.now of.now.known.now.rows player) }
-    ensures vertex { result < length of.now.game.now }
-    ensures row { option_map (λ r. r.0) (slice_get (known_rows of.now.game.now of.now.known.now.rows player) row) ≡ Some result }
-{
-    let mut before = 0u32;
-    for v in 0..of.game.len() {
-        if is_known_of(of.known, player, v) {
-            if before == row {
-                return v;
-            }
-            before += 1;
-        }
-    }
-    unreachable!()
-}
-
-/// Whether the player is known to win the vertex.
-fn is_known_of(known: &Known, player: Player, v: u32) -> bool
-    ensures { result ≡ known_of known.now.rows player v }
-{
-    let at = v as usize;
-    let rows = known.rows.as_slice();
-    if at >= rows.len() {
-        return false;
-    }
-    match rows[at] {
-        Some((winner, _)) => winner == player,
-        None => false,
+    match fault {
+        pg_workers::KnownFault::Choice(v) => KnownFault::Choice(game.id(v)),
+        pg_workers::KnownFault::Cycle(v) => KnownFault::Cycle(game.id(v)),
+        pg_workers::KnownFault::Lost(v) => KnownFault::Lost(game.id(v)),
+        pg_workers::KnownFault::Open(v, w) => KnownFault::Open(game.id(v), game.id(w)),
     }
 }
 

@@ -13,4 +13,4 @@ pub use Rattle.pgboard_c.specs.Arrays.{GameLists, IsBadOwner, IsBadPriority, IsB
 pub use Rattle.pgboard_c.specs.Arrays.{array_spec, array_specs, choice_from, game_lists, no_choice}
 pub use Rattle.pgboard_c.specs.Arrays.{specs_below}
 pub use Rattle.pg_text.specs.Known.{KnownRows, known_at, known_of, known_choice}
-pub use Rattle.pgboard_c.specs.KnownArrays.{HasRightChoice, HaveRightChoices, IsBadKnownWinner, known_from}
+pub use Rattle.pgboard_c.specs.KnownArrays.{IsBadKnownWinner, known_from}

@@ -1,17 +1,13 @@
 -- What is known of a game in arrays, and why a known set is no region.
 use Rattle.std.specs.Prelude.{ℕ, ◌≡◌, ◌≢◌, ◌<◌, ◌==◌, List, length, slice_get, slice_index, if◌then◌else◌, Option, Some, None, Result, MatchResult}
 use Rattle.pg_game.specs.declared.player.Player.{Player}
-use Rattle.pg_game.specs.Graph.{Graph, HasEdge, owner_of}
-use Rattle.pg_game.specs.VertexSet.{In}
+use Rattle.pg_game.specs.Graph.{Graph}
 use Rattle.pg_game.specs.Least.{NoneHas, IsLeast}
 use Rattle.pg_text.specs.GameText.{player_of}
-use Rattle.pg_text.specs.Known.{KnownRows, known_at, known_of, known_choice}
+use Rattle.pg_text.specs.Known.{KnownRows, known_at}
 use Rattle.pg_text.specs.Solution.{SolutionRows, IsExactSolution}
-use Rattle.pg_dominion.specs.declared.claim.ClaimFault.TheVariants as claim_fault
-use Rattle.pg_board.specs.declared.journal.Refusal.TheVariants as refusal
-use Rattle.pg_workers.specs.declared.known.SolveFault.TheVariants as solving
-use Rattle.pg_workers.specs.KnownRegions.{IsKnownRegion, KeepsKnown, IsSolveFault as IsRefusedSet}
-use Rattle.pgboard_c.specs.declared.fault.KnownSetFault.TheVariants as known_fault
+use Rattle.pg_board.specs.Finish.{MayGiveUp}
+use Rattle.pg_workers.specs.KnownRegions.{IsKnownRegion, KeepsKnown, IsRefusedSet}
 use Rattle.pgboard_c.specs.declared.fault.Structure.TheVariants as structure
 use Rattle.pgboard_c.specs.declared.fault.Fault.{Fault}
 use Rattle.pgboard_c.specs.declared.fault.Fault.TheVariants as fault
@@ -38,28 +34,12 @@ IsBadKnownWinner winners v = (v < length winners) × (1 < slice_index winners v)
 abbrev pub FitsAsKnown : Graph → ResultLists → Type 0
 FitsAsKnown g k = HaveSize g k × NoneHas (IsBadKnownWinner k.winners)
 
-abbrev pub HasRightChoice : Graph → KnownRows → ℕ → Type 0
-HasRightChoice g known v = (w : ℕ) × (known_choice known v ≡ Some w) × HasEdge g v w
-
--- if a vertex's owner is known to win it, it has a choice that is a successor
-abbrev pub HaveRightChoices : Graph → KnownRows → Type 0
-HaveRightChoices g known = (v : ℕ) → v < length g → In (known_of known (owner_of g v)) v → HasRightChoice g known v
-
--- the vertex's owner is known to win it, and it has no choice that is a successor
-abbrev pub IsWrongChoice : Graph → KnownRows → ℕ → Type 0
-IsWrongChoice g known v = (v < length g) × In (known_of known (owner_of g v)) v × (HasRightChoice g known v → ⊥)
-
--- a player's known set is no region. Beside its choices, this is a board's reason to refuse it: Even's first, and then Odd's after Even has
--- what he attracts to his set
-abbrev pub IsRefusedKnown : Graph → KnownRows → Fault → Type 0
-IsRefusedKnown g known fault.Memory = Unit {0}
-IsRefusedKnown g known (fault.Known (known_fault.Choice v)) = IsLeast (IsWrongChoice g known) v
-IsRefusedKnown g known (fault.Known (known_fault.Cycle v)) =
-    HaveRightChoices g known × (p : Player) × IsRefusedSet g known (solving.Known p (refusal.Claim (claim_fault.Cycle v)))
-IsRefusedKnown g known (fault.Known (known_fault.Lost v)) = HaveRightChoices g known × (p : Player) × IsRefusedSet g known (solving.Known p (refusal.Lost v))
-IsRefusedKnown g known (fault.Known (known_fault.Leaves v w)) =
-    HaveRightChoices g known × (p : Player) × IsRefusedSet g known (solving.Known p (refusal.Open v w))
-IsRefusedKnown g known other = ⊥
+-- why a game is not solved from what is known of it: a known set is no region; or both are, and the limit of steps may be too low
+abbrev pub IsUnsolved : Option ℕ → Graph → KnownRows → Fault → Type 0
+IsUnsolved limit g known fault.Memory = Unit {0}
+IsUnsolved limit g known (fault.Known f) = IsRefusedSet g known f
+IsUnsolved limit g known fault.GaveUp = ((p : Player) → IsKnownRegion g known p) × MayGiveUp limit (length g)
+IsUnsolved limit g known other = ⊥
 
 -- the same as AreSolved, each player's known set is a region of his, and he keeps its vertices and the choices at those that he owns
 pub record AreSolvedFrom (a : GameLists) (k r : ResultLists) : Type 0 where
@@ -75,19 +55,27 @@ pub record AreSolvedFrom (a : GameLists) (k r : ResultLists) : Type 0 where
   pub results : AreResults r.winners r.choices rows
   pub exact : IsExactSolution graph rows
 
--- why solving from what is known has no result: the game comes first, then what is known as arrays, then the results, then what it means
-abbrev pub IsSolveFromFault : GameLists → ResultLists → ResultLists → Fault → Type 0
-IsSolveFromFault a k r (fault.Size structure.Solution) = (g : Graph) × IsGameOfArrays a g × IsUnfitSolution g k (fault.Size structure.Solution)
-IsSolveFromFault a k r (fault.Solution name) = (g : Graph) × IsGameOfArrays a g × IsUnfitSolution g k (fault.Solution name)
-IsSolveFromFault a k r (fault.Winner v) = (g : Graph) × IsGameOfArrays a g × HaveSize g k × IsLeast (IsBadKnownWinner k.winners) v
-IsSolveFromFault a k r (fault.Size structure.Results) =
-    (g : Graph) × IsGameOfArrays a g × FitsAsKnown g k × AreUnfitResults g r (fault.Size structure.Results)
-IsSolveFromFault a k r (fault.Results name) = (g : Graph) × IsGameOfArrays a g × FitsAsKnown g k × AreUnfitResults g r (fault.Results name)
-IsSolveFromFault a k r (fault.Known f) =
+-- the arrays fit one another, and the game is not solved from what is known of it
+abbrev pub IsNotSolvedFrom : Option ℕ → GameLists → ResultLists → ResultLists → Fault → Type 0
+IsNotSolvedFrom limit a k r e =
     (g : Graph) × (known : KnownRows) × IsGameOfArrays a g × FitsAsKnown g k × AreKnown k.winners k.choices known × HaveSize g r
-    × IsRefusedKnown g known (fault.Known f)
-IsSolveFromFault a k r other = IsArraysFault a other
+    × IsUnsolved limit g known e
 
-abbrev pub IsSolveFromOutcome : GameLists → ResultLists → Results → Results → Result (Unit {0}) Fault → Type 0
-IsSolveFromOutcome a k old new result = MatchResult result
-    (λ _. AreSolvedFrom a k (result_lists new) × IsSameStruct old new) (λ e. IsSolveFromFault a k (result_lists old) e × AreUnchanged old new)
+-- why solving from what is known has no result: the game comes first, then what is known as arrays, then the results, then what it means, and
+-- at last the limit of steps
+abbrev pub IsSolveFromFault : Option ℕ → GameLists → ResultLists → ResultLists → Fault → Type 0
+IsSolveFromFault limit a k r (fault.Size structure.Solution) =
+    (g : Graph) × IsGameOfArrays a g × IsUnfitSolution g k (fault.Size structure.Solution)
+IsSolveFromFault limit a k r (fault.Solution name) = (g : Graph) × IsGameOfArrays a g × IsUnfitSolution g k (fault.Solution name)
+IsSolveFromFault limit a k r (fault.Winner v) = (g : Graph) × IsGameOfArrays a g × HaveSize g k × IsLeast (IsBadKnownWinner k.winners) v
+IsSolveFromFault limit a k r (fault.Size structure.Results) =
+    (g : Graph) × IsGameOfArrays a g × FitsAsKnown g k × AreUnfitResults g r (fault.Size structure.Results)
+IsSolveFromFault limit a k r (fault.Results name) =
+    (g : Graph) × IsGameOfArrays a g × FitsAsKnown g k × AreUnfitResults g r (fault.Results name)
+IsSolveFromFault limit a k r (fault.Known f) = IsNotSolvedFrom limit a k r (fault.Known f)
+IsSolveFromFault limit a k r fault.GaveUp = IsNotSolvedFrom limit a k r fault.GaveUp
+IsSolveFromFault limit a k r other = IsArraysFault a other
+
+abbrev pub IsSolveFromOutcome : Option ℕ → GameLists → ResultLists → Results → Results → Result (Unit {0}) Fault → Type 0
+IsSolveFromOutcome limit a k old new result = MatchResult result
+    (λ _. AreSolvedFrom a k (result_lists new) × IsSameStruct old new) (λ e. IsSolveFromFault limit a k (result_lists old) e × AreUnchanged old new)

@@ -12,8 +12,8 @@ use Rattle.pgboard_c.specs.declared.fault.ArrayName.{ArrayName}
 use Rattle.pgboard_c.specs.declared.fault.ArrayName.TheVariants as array_name
 use Rattle.pgboard_c.specs.declared.fault.Structure.{Structure}
 use Rattle.pgboard_c.specs.declared.fault.Structure.TheVariants as structure
-use Rattle.pgboard_c.specs.declared.fault.KnownSetFault.{KnownSetFault}
-use Rattle.pgboard_c.specs.declared.fault.KnownSetFault.TheVariants as known
+use Rattle.pg_workers.specs.declared.known.KnownFault.{KnownFault}
+use Rattle.pg_workers.specs.declared.known.KnownFault.TheVariants as known
 use Rattle.pgboard_c.specs.declared.fault.BoardFault.{BoardFault}
 use Rattle.pgboard_c.specs.declared.fault.BoardFault.TheVariants as board
 use Rattle.pgboard_c.specs.declared.fault.PostFault.{PostFault}
@@ -66,11 +66,11 @@ verdict_answer (verdict.BadChoice id) = answer 21 id 0
 verdict_answer (verdict.Leaves id to) = answer 22 id to
 verdict_answer (verdict.Cycle id) = answer 23 id 0
 
-abbrev pub known_answer : KnownSetFault → Answer
+abbrev pub known_answer : KnownFault → Answer
 known_answer (known.Choice v) = answer 60 v 0
 known_answer (known.Cycle v) = answer 61 v 0
 known_answer (known.Lost v) = answer 62 v 0
-known_answer (known.Leaves v w) = answer 63 v w
+known_answer (known.Open v w) = answer 63 v w
 
 abbrev pub text_answer : TextFault → Answer
 text_answer text.Memory = answer 1 0 0

@@ -7,6 +7,7 @@ ghost use Rattle.pgboard_c.specs.Numbers.{game_answer, verdict_answer, known_ans
 use pg_dominion::SolutionFault;
 use pg_game::GameFault;
 use pg_text::{SolutionTextFault, TextFault};
+use pg_workers::KnownFault;
 use std::alloc::{AllocError, AllocFailed};
 
 /// An array with a length that does not fit the others.
@@ -69,19 +70,6 @@ impl Structure {
     }
 }
 
-/// Why a player's known set is no region of his.
-#[derive(Clone, Copy, Drop)]
-pub enum KnownSetFault {
-    /// The first vertex that its owner is known to win, without a choice that is a successor.
-    Choice(u32),
-    /// The vertex has the opponent's parity and is the greatest on a closed walk of kept edges.
-    Cycle(u32),
-    /// Even attracts the vertex to his known set, and it is in Odd's.
-    Lost(u32),
-    /// A kept edge leads out of the known set.
-    Leaves(u32, u32),
-}
-
 /// Why a call on a board has no result.
 #[derive(Clone, Copy, Drop)]
 pub enum BoardFault {
@@ -142,7 +130,7 @@ pub enum Fault {
     /// The winners and choices are no solution. Never `SolutionFault::Memory`.
     Verdict(SolutionFault),
     /// What is known does not hold.
-    Known(KnownSetFault),
+    Known(KnownFault),
     /// The game's text is longer than 268,435,456 bytes.
     GameTooLong,
     /// The text is none of a game. Never `TextFault::Memory`.
@@ -258,15 +246,15 @@ impl Answer {
     }
 
     /// The answer to known sets that a board does not take.
-    fn of_known(fault: KnownSetFault) -> Answer
+    fn of_known(fault: KnownFault) -> Answer
         ensures answer { result ≡ known_answer fault }
         ensures above { 0 < result.number }
     {
         match fault {
-            KnownSetFault::Choice(v) => Answer::new(60, u64::from(v), 0),
-            KnownSetFault::Cycle(v) => Answer::new(61, u64::from(v), 0),
-            KnownSetFault::Lost(v) => Answer::new(62, u64::from(v), 0),
-            KnownSetFault::Leaves(v, w) => Answer::new(63, u64::from(v), u64::from(w)),
+            KnownFault::Choice(v) => Answer::new(60, u64::from(v), 0),
+            KnownFault::Cycle(v) => Answer::new(61, u64::from(v), 0),
+            KnownFault::Lost(v) => Answer::new(62, u64::from(v), 0),
+            KnownFault::Open(v, w) => Answer::new(63, u64::from(v), u64::from(w)),
         }
     }
 

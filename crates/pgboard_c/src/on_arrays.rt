@@ -56,9 +56,28 @@ pub extern "C" fn pgboard_solve_known(
     results: &mut Results,
     report: &mut Report,
 ) -> u32
-    ensures { Returns (IsSolveFromOutcome (game_lists game.now) (solution_lists known.now) results.old results.new) result report.new }
+    ensures { Returns (IsSolveFromOutcome None (game_lists game.now) (solution_lists known.now) results.old results.new) result report.new }
 {
-    reported(report, solve_known(alloc, game, known, results))
+    reported(report, solve_known(alloc, game, known, None, results))
+}
+
+/// The same as [`pgboard_solve_known`] with a bound, as of [`pgboard_solve_within`].
+#[unsafe(no_mangle)]
+pub extern "C" fn pgboard_solve_known_within(
+    alloc: Global,
+    game: &GameArrays,
+    known: &SolutionArrays,
+    steps: u64,
+    results: &mut Results,
+    report: &mut Report,
+) -> u32
+    ensures { Returns (IsSolveFromOutcome (Some steps) (game_lists game.now) (solution_lists known.now) results.old results.new)
+        result report.new }
+{
+    reported(
+        report,
+        solve_known(alloc, game, known, Some(steps), results),
+    )
 }
 
 /// Whether winners and choices are a solution of the game. The answer is 0, and the report is blank; or it is their first
@@ -95,14 +114,15 @@ fn solve(
     Ok(())
 }
 
-/// Solves the game of the arrays, from what is known of it. After a refusal the arrays for results are unchanged.
+/// The same from what is known of the game.
 fn solve_known(
     alloc: Global,
     arrays: &GameArrays,
     given: &SolutionArrays,
+    limit: Option<u64>,
     results: &mut Results,
 ) -> Result<(), Fault>
-    ensures { IsSolveFromOutcome (game_lists arrays.now) (solution_lists given.now) results.old results.new result }
+    ensures { IsSolveFromOutcome limit (game_lists arrays.now) (solution_lists given.now) results.old results.new result }
 {
     let forward = arrays.forward_game(alloc)?;
     given.check_lengths(&forward)?;
@@ -116,7 +136,7 @@ fn solve_known(
         game: &game,
         known: &known,
     };
-    let solution = known_solution(alloc, &of_game)?;
+    let solution = known_solution(alloc, &of_game, limit)?;
     write_results(&solution, results.winners, results.choices);
     Ok(())
 }

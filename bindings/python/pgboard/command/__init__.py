@@ -267,7 +267,7 @@ class Parser(argparse.ArgumentParser):
 
 def number(word):
     """A number of a command line: digits from 0 to 9 alone, which int would not insist on."""
-    if not re.fullmatch("-?[0-9]{1,18}", word, re.ASCII):
+    if not re.fullmatch("-?[0-9]{1,4000}", word, re.ASCII):
         raise ValueError
     return int(word)
 

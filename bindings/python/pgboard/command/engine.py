@@ -153,7 +153,7 @@ class Library:
             rows, entries = table.rows(board.state()), len(board.entries)
         is_whole = len(rows) == len(table.ids)
         if not is_whole and not partial and until not in rows:
-            raise Refused(f"after {timeout:g} s {len(rows)} of {len(table.ids)} vertices are settled", LATE)
+            raise late(timeout, rows, table.ids)
         return Solution(rows), is_whole, entries
 
     def solve_bytes(self, data, timeout):
@@ -186,6 +186,10 @@ class Library:
             return call(*map(bytes, texts))
         except self.calls.Refused as fault:
             raise Refused(str(fault)) from None
+
+
+def late(timeout, rows, vertices):
+    return Refused(f"after {timeout:g} s {len(rows)} of {len(vertices)} vertices are settled", LATE)
 
 
 def watched(board, count, until):
@@ -234,6 +238,9 @@ class Program:
             elif line not in self.warned:
                 self.warned.add(line)
                 sys.stderr.write(line)
+        if left == "pgboard: read fault\n":
+            given = " and ".join(it for it in words if it.startswith("/dev/fd/"))
+            left = f"{self.words[0]} can't read {given}, by which it gets what this command has read"
         if status > 1:
             self.refuse(status, left, status)
         return status, out.decode(errors="replace"), left
@@ -242,29 +249,27 @@ class Program:
         why = re.sub("^pgboard: ", "", said.strip()) or f"{self.words[0]}: status {status}"
         raise Refused(why, ends)
 
-    def solution(self, timeout, *words):
-        return self.run("solve", "--workers", str(self.workers), *words, timeout=timeout)
+    def solution(self, timeout, *words, known=None):
+        status, text, said = self.run("solve", "--workers", str(self.workers), *words, timeout=timeout)
+        fault = known and re.fullmatch(r"pgboard: known: (.*\d.*)\n", said)
+        if status and fault:
+            refuse_known(known, fault[1])
+        if status:
+            self.refuse(status, said, FILE)
+        sys.stderr.write(said)
+        return text
 
     def solve(self, game, known, timeout, partial, _):
         if partial:
             raise Refused(f"--partial needs the library. {self.why}", FILE)
         words = ["--known", data_of(known)] if known else []
-        status, text, said = self.solution(timeout, *words, data_of(plain(game)))
-        fault = re.fullmatch(r"pgboard: known: (.*\d.*)\n", said)
-        if status and known and fault:
-            refuse_known(known, fault[1])
-        if status:
-            self.refuse(status, said, FILE)
-        sys.stderr.write(said)
+        text = self.solution(timeout, *words, data_of(plain(game)), known=known)
         return solution_of("the solution", text), True, None
 
     def solve_bytes(self, data, timeout):
         """A solution's text, which is verified."""
-        status, text, said = self.solution(timeout, data)
-        if status:
-            self.refuse(status, said, FILE)
+        text = self.solution(timeout, data)
         check(self.verify_bytes(data, text.encode()))
-        sys.stderr.write(said)
         return text
 
     def verify(self, game, solution):

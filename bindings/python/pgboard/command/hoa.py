@@ -54,9 +54,11 @@ class Text(Tokens):
         return self.end_of_nested(COMMENT, found.start()) if found[0] == "/*" else found.end()
 
     def number(self, below):
+        if not below:
+            self.refuse("no number can stand here")
         if not self.next_is("a number") or int(self.left[-1].text) >= below:
-            known = {0: "no number can stand here", 1: "expected 0"}
-            self.refuse(known.get(below, f"expected a number below {below}"))
+            known = {1: "0", 2: "0 or 1", MOST: "a number"}
+            self.wants(known.get(below, f"a number from 0 to {below - 1}"))
         return int(self.take("a number").text)
 
     def string(self):

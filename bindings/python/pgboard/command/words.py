@@ -7,7 +7,7 @@ automaton or a game in the HOA format. `-` is standard input. Results have the i
 
 # mypy: ignore-errors
 
-from . import WORDS, LATE, Parser, Refused, called, number, seconds, write  # isort: skip
+from . import WORDS, Parser, Refused, called, number, seconds, write  # isort: skip
 
 import json
 import re
@@ -140,10 +140,7 @@ def solve(given):
         print(shown.written(game.rows if given.keep_names else None), end="", flush=True)
         print(statistics.text(numbers), end="", file=sys.stderr)
     if not found.is_whole:
-        raise Refused(
-            f"after {given.timeout:g} s {len(found.solution.rows)} of {len(game.rows)} vertices are settled",
-            LATE,
-        )
+        raise engine.late(given.timeout, found.solution.rows, game.rows)
 
 
 def judged(given, data):

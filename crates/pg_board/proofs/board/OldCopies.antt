@@ -13,6 +13,7 @@ use Rattle.pg_board.specs.Refusal.{IsOfState}
 use Rattle.pg_board.specs.Post.{SettlesDominion, IsPostAnswer, IsSettleAnswer}
 use Rattle.pg_board.proofs.PushedEntry.{IsAdded, theirs}
 use Rattle.pg_board.proofs.Lawful.{lawful_push}
+use Rattle.pg_board.proofs.RestIsGood.{kept_rest}
 use Rattle.pg_board.proofs.Dominion.{never_lost, stays_closed}
 use Rattle.pg_board.proofs.laws.AnyOrder.{Target, order}
 use Rattle.pg_dominion.specs.declared.claim.ClaimFault.TheVariants as claim_fault
@@ -57,8 +58,8 @@ module _ (x : BoardRecord) (holds : IsLawfulRecord x) (claim : Claim) (k : ℕ) 
   rows = claim.rows
 
   no_fault : (fault : ClaimFault) → IsClaimFault g p rows fault → (fault ≡ claim_fault.Memory → ⊥) → ⊥
-  no_fault (claim_fault.Shape i) h n = shape_is_right g p rows i d.1.shape h
-  no_fault (claim_fault.Cycle v) h n = none_from_good g p (named rows) (choice_in rows) d.1.good v h.1.has
+  no_fault (claim_fault.Shape i) h n = shape_is_right g p rows i d.1.sound.shape h
+  no_fault (claim_fault.Cycle v) h n = none_from_good g p (named rows) (choice_in rows) d.1.sound.good v h.1.has
   no_fault claim_fault.Memory h n = n refl
 
   target_is : Target p old (claim ∷ []) ≡ union (settled (state_of old) p) (named rows)
@@ -88,7 +89,8 @@ module _ (x : BoardRecord) (holds : IsLawfulRecord x) (claim : Claim) (k : ℕ) 
   old_copy new worker (Err (refusal.Claim fault)) h = absurd (no_fault fault h.refused.0 h.refused.1)
   old_copy new worker (Err (refusal.Foreign v)) h = absurd h.refused
   old_copy new worker (Err (refusal.Lost v)) h = search (rules, h.refused.1.has, never_lost, holds.lawful, h.refused.1.has.0, h.refused.1.has.1)
-  old_copy new worker (Err (refusal.Open v w)) h = absurd (let e = h.refused.2.edge in e.1 (stays_closed g old holds.lawful k p rows d v w e.0))
+  old_copy new worker (Err (refusal.Open v w)) h =
+      absurd (let e = h.refused.2.edge in let i = stays_closed g old holds.lawful k p rows d v w (kept_rest g p (state_of old) rows v w e.0) in let o = e.1 in cc (i, o))
 
 -- the journal is lawful after a post
 lawful_after : {x new : BoardRecord} {worker : ℕ} {claim : Claim} (result : Result Posted Refusal) → IsLawfulRecord x → IsAnswered x new worker claim result

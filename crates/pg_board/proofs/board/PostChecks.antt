@@ -1,13 +1,13 @@
 -- What the checks of a claim against the state say together.
 use Rattle.pg_board.proofs.Common.{rules, ◌≡◌, ℕ, ◌<◌, ◌≤◌, Bool, true, false, length, refl, sym, ◌∙◌, ap, subst, arith, Option, nat_eq, fun_ext, list_any}
+use Rattle.pg_board.proofs.Common.{vertices}
 use Rattle.pg_board.proofs.Common.{length-map, length-le_from_distinct_below, false_from_ne_true, Player, Graph, NoneHas, VertexSet, In, union, KeptEdge, Claim}
 use Rattle.pg_board.proofs.Common.{ClaimRows, named, choice_in, AreRight, IsSound, named_right, Posted, State, settled, rest_of, IsGoodOn, Journal, state_of}
-use Rattle.pg_board.proofs.Common.{Regions, BoardRecord, Adds, IsLost, Refuses, table_state, IsBoard, LeadsOutside, IsFirstOutside, Within, members, lt-ltb, ◌==◌}
+use Rattle.pg_board.proofs.Common.{Regions, BoardRecord, Adds, IsLost, Refuses, table_state, IsBoard, Within, members, lt-ltb, ◌==◌}
 use Rattle.std.proofs.lemmas.Bool.{eqb-false}
-use Rattle.pg_board.specs.Refusal.{IsOpenEdge, IsFirstOpenEdge}
-use Rattle.pg_board.proofs.PushedEntry.{distinct_rising}
-use Rattle.pg_board.proofs.RestIsGood.{vertices, in_rest, kept_rest, kept_of_rest, rest_right, rest_twice}
-use Rattle.pg_board.proofs.Numbers.{in_vertices}
+use Rattle.pg_board.specs.Refusal.{IsFirstEdge, IsOpenEdge}
+use Rattle.pg_dominion.proofs.RowsByPlace.{distinct_rising, in_vertices}
+use Rattle.pg_board.proofs.RestIsGood.{in_rest, kept_of_rest, rest_right, rest_twice}
 use Rattle.pg_board.specs.declared.journal.Refusal.TheVariants as refusal
 
 abbrev pub record_with : Graph → Journal → BoardRecord
@@ -18,21 +18,10 @@ abbrev pub Bounds : State → Player → ClaimRows → VertexSet
 Bounds st p rows = union (named (rest_of st rows)) (settled st p)
 
 module _ (g : Graph) (st : State) (p : Player) (rows : ClaimRows) where
-  leads_outside : (v w : ℕ) → IsOpenEdge g st p rows v w → LeadsOutside g p (Bounds st p rows) (rest_of st rows) v w
-  leads_outside v w h = (kept_of_rest g p st rows v w h.0, false_from_ne_true (Bounds st p rows w) h.1)
-
-  pub first_open : (v w : ℕ) → IsFirstOutside g p (Bounds st p rows) (rest_of st rows) v w → IsFirstOpenEdge g st p rows v w
-  first_open v w h = record {
-    edge = (kept_rest g p st rows v w h.edge.0, λ i. (let f = h.edge.1 in cc (i, f)));
-    first = λ u x o. h.first u x (leads_outside u x o);
-    least = λ x o. h.least x (leads_outside v x o);
-  }
-
   pub good_on : IsSound g p rows → NoneHas (IsLost st p rows) → 0 < length (rest_of st rows)
-      → ((v w : ℕ) → LeadsOutside g p (Bounds st p rows) (rest_of st rows) v w → ⊥) → IsGoodOn g st p rows
+      → ((v w : ℕ) → IsOpenEdge g st p (rest_of st rows) v w → ⊥) → IsGoodOn g st p rows
   good_on sound none some closed = record {
-    shape = sound.shape;
-    good = sound.good;
+    sound = sound;
     not_lost = λ v i. false_from_ne_true _ (λ t. none v (i, t));
     not_stale = some;
     closed = λ v w k. inside v w k (Bounds st p rows w) refl;
@@ -54,10 +43,6 @@ module _ {g : Graph} {j : Journal} {r : Regions} {number : ℕ} {p : Player} {ro
   abbrev now : State
   now = table_state r.table.items
 
-  -- the vertices where edges may end, as the code has them
-  abbrev Inside : ClaimRows → VertexSet
-  Inside xs = union (named xs) (settled now p)
-
   -- the rest is right and unsettled
   pub rest_right_here : AreRight g p rest
   rest_right_here = subst (λ (xs : ClaimRows). AreRight g p xs) (sym h.rest_is) (rest_right g p now rows h.sound.shape.right)
@@ -70,13 +55,13 @@ module _ {g : Graph} {j : Journal} {r : Regions} {number : ℕ} {p : Player} {ro
   pub rest_now : rest ≡ rest_of (state_of j) rows
   rest_now = subst (λ (s : State). rest ≡ rest_of s rows) (fun_ext h.board.state) h.rest_is
 
-  pub refused_open : (v w : ℕ) → IsFirstOutside g p (Inside rest) rest v w → Refuses g (state_of j) p rows (refusal.Open v w)
+  pub refused_open : (v w : ℕ) → IsFirstEdge (IsOpenEdge g now p rest) v w → Refuses g (state_of j) p rows (refusal.Open v w)
   refused_open v w found = subst (λ (s : State). Refuses g s p rows (refusal.Open v w)) (fun_ext h.board.state)
-      (h.sound, h.none, first_open g now p rows v w (subst (λ (xs : ClaimRows). IsFirstOutside g p (Inside xs) xs v w) h.rest_is found))
+      (h.sound, h.none, subst (λ (xs : ClaimRows). IsFirstEdge (IsOpenEdge g now p xs) v w) h.rest_is found)
 
-  pub claim_good : 0 < length rest → ((v w : ℕ) → LeadsOutside g p (Inside rest) rest v w → ⊥) → IsGoodOn g (state_of j) p rows
+  pub claim_good : 0 < length rest → ((v w : ℕ) → IsOpenEdge g now p rest v w → ⊥) → IsGoodOn g (state_of j) p rows
   claim_good some none =
-      let closed = subst (λ (xs : ClaimRows). (v w : ℕ) → LeadsOutside g p (Inside xs) xs v w → ⊥) h.rest_is none in
+      let closed = subst (λ (xs : ClaimRows). (v w : ℕ) → IsOpenEdge g now p xs v w → ⊥) h.rest_is none in
       subst (λ (s : State). IsGoodOn g s p rows) (fun_ext h.board.state)
       (good_on g now p rows h.sound h.none (subst (λ (xs : ClaimRows). 0 < length xs) h.rest_is some) closed)
 

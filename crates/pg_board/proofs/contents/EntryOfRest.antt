@@ -1,14 +1,14 @@
 -- The entry of a good rest and of what it attracts.
-use Rattle.pg_board.proofs.Common.{rules, ◌≡◌, ℕ, ◌+◌, ◌≤◌, Bool, true, false, [], ◌∷◌, ◌++◌, length, take, drop, refl, sym, ◌∙◌, subst, arith, lt-ltb}
-use Rattle.pg_board.proofs.Common.{length-append, ◌↔◌, if◌then◌else◌, fun_ext, sum_by_push, take-length, Player, Graph, IsGame, VertexSet, In, Within}
+use Rattle.pg_board.proofs.Common.{rules, ◌≡◌, ℕ, ◌+◌, ◌≤◌, true, false, [], ◌∷◌, ◌++◌, length, take, drop, refl, sym, ◌∙◌, subst, arith, lt-ltb}
+use Rattle.pg_board.proofs.Common.{length-append, ◌↔◌, fun_ext, sum_by_push, take-length, Player, Graph, IsGame, VertexSet, In, Within}
 use Rattle.pg_board.proofs.Common.{all_vertices, union, members, IsSubgame, Attractor, ClaimRows, named, IsAttraction, named_right, Entry, State, settled}
 use Rattle.pg_board.proofs.Common.{unsettled, rest_of, IsGoodOn, Journal, state_of, claimed_rows, Answers, IsLawful, number_settled, Regions, table_state}
-use Rattle.pg_board.proofs.Common.{state_with, AreRegions, IsBoard, All-from_get_or, or_assoc, named-append, open_before, HasWritten, IsDistinct, nat_eq, nat_lt}
-use Rattle.pg_board.proofs.Common.{is_unsettled, ◌<◌, ap, ltb-true, eqb-true, and_parts, or_left, false_from_ne_true}
-use Rattle.std.proofs.lemmas.List.Sums.{sum_by-le}
+use Rattle.pg_board.proofs.Common.{state_with, AreRegions, IsBoard, or_assoc, named-append, open_before, HasWritten, IsDistinct, nat_eq, nat_lt}
+use Rattle.pg_board.proofs.Common.{is_unsettled, ◌<◌, ap, ltb-true, eqb-true, and_parts, or_left, false_from_ne_true, vertices}
+use Rattle.std.proofs.lemmas.List.Sums.{count_by-le-length}
 use Rattle.std.proofs.Math.Seq.{take-append_seam, drop-append_seam}
-use Rattle.pg_board.proofs.RestIsGood.{in_rest, vertices}
-use Rattle.pg_board.proofs.PushedEntry.{state_push, distinct_rising}
+use Rattle.pg_board.proofs.RestIsGood.{in_rest}
+use Rattle.pg_board.proofs.PushedEntry.{state_push}
 use Rattle.pg_board.proofs.Lawful.{lawful_push}
 use Rattle.pg_board.proofs.Numbers.{lawful_now, number_within, sum_fits, all_named}
 use Rattle.std.proofs.lemmas.Bool.{and_from}
@@ -17,12 +17,13 @@ use Rattle.pg_dominion.specs.ExtendedRows.{LeadFrom}
 use Rattle.pg_dominion.proofs.AttractionSteps.{grown_attraction, grown_rows}
 use Rattle.pg_dominion.proofs.TakenRow.{lead_none}
 use Rattle.pg_board.specs.private.WrittenRows.{WritesInTurn}
+use Rattle.pg_dominion.proofs.RowsByPlace.{distinct_rising}
 use Rattle.pg_board.proofs.WholeAttractor.{whole}
 
 -- a rest lies in the unsettled part
 pub rest_inside : (g : Graph) (st : State) (p : Player) (R : ClaimRows) → IsGoodOn g st p R → rest_of st R ≡ R → Within (named R) (unsettled g st)
 rest_inside g st p R good twice v i =
-    search (rules, (named_right g p R v good.shape.right.each i).vertex, and_from, lt-ltb, named_right, good.shape.right.each, in_rest)
+    search (rules, (named_right g p R v good.sound.shape.right.each i).vertex, and_from, lt-ltb, named_right, good.sound.shape.right.each, in_rest)
 
 -- the entry of a claim that is its own rest, on a lawful journal: its rows, and after them what they attract
 pub record Enters (g : Graph) (j : Journal) (p : Player) (R A : ClaimRows) (e : Entry) : Type 0 where
@@ -99,11 +100,11 @@ module _ {g : Graph} {j : Journal} {r : Regions} {number : ℕ} {p : Player} {R 
   rest_within = subst (λ (U : VertexSet). Within (named R) U) (sym opened) (rest_inside g (state_of j) p R q.good q.twice)
 
   pub rest_distinct : IsDistinct nat_eq (vertices R)
-  rest_distinct = distinct_rising (vertices R) q.good.shape.right.rising
+  rest_distinct = distinct_rising (vertices R) q.good.sound.shape.right.rising
 
   rest_unsettled : (v : ℕ) → named R v ≡ true → (v < length g) × (is_unsettled (state_of j v) ≡ true)
   rest_unsettled v i = (
-    (named_right g p R v q.good.shape.right.each i).vertex,
+    (named_right g p R v q.good.sound.shape.right.each i).vertex,
     (in_rest (state_of j) R v (subst (λ (xs : ClaimRows). In (named xs) v) (sym q.twice) i)).1,
   )
 
@@ -158,13 +159,8 @@ pub HasWritten-start : (g : Graph) (r : Regions) (rows : ClaimRows) (spare : ℕ
 HasWritten-start g r rows spare regions none size = subst (λ (xs : ClaimRows). HasWritten g r xs spare) (sym none) (record {
   regions = regions;
   apart = λ v n. absurd (let h : false ≡ true = n in cc h);
-  fits =
-      (let h = sum_by-le ones 1 r.unsettled (All-from_get_or (λ b. ones b ≤ 1) r.unsettled false (λ i l. search rules)) in let m =
-      regions.mask_size in omega (arith, h));
+  fits = omega (arith, size, regions.mask_size, count_by-le-length (λ b. b) r.unsettled);
 })
-  where
-    ones : Bool → ℕ
-    ones b = if b then 1 else 0
 
 -- a greater capacity suffices
 pub HasWritten-more : (g : Graph) (r : Regions) (rows : ClaimRows) (n m : ℕ) → n ≤ m → HasWritten g r rows n → HasWritten g r rows m

@@ -45,7 +45,7 @@ module _ (g : Graph) (j : Journal) (lawful : IsLawful g j) where
           q.chosen ∙ (((lawful.answered k e at).turns q.before q.after (v, q.choice) q.split).forced other).0)
 
       go : (b : Bool) → named (claimed_rows e) v ≡ b → choice_in e.rows v ≡ None
-      go b n = search (rules, (lawful.good k e at).shape.right.each, split, choice-front, named_right, lawful.good, choice-back, forced, named-append)
+      go b n = search (rules, (lawful.good k e at).sound.shape.right.each, split, choice-front, named_right, lawful.good, choice-back, forced, named-append)
 
   others_none : (v : ℕ) (r : Player × Option ℕ) → st v ≡ Some r → owner_of g v ≢ r.0 → r.1 ≡ None
   others_none v r e other = search (rules, settling, entry_none, settling j v r e)

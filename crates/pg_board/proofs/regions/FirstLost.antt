@@ -1,9 +1,8 @@
 -- The first row that is lost names the least vertex that is.
 use Rattle.pg_board.proofs.Common.{rules, ◌≡◌, ℕ, ◌<◌, ◌≤◌, true, false, length, cases_lt, IsStrictlyIncreasing, Player, opponent, NoneHas, ClaimRows, State}
-use Rattle.pg_board.proofs.Common.{settled, IsLost}
+use Rattle.pg_board.proofs.Common.{settled, IsLost, vertices, row_at}
 use Rattle.pg_game.specs.Least.{IsLeast}
-use Rattle.pg_board.proofs.RestIsGood.{vertices}
-use Rattle.pg_board.proofs.Places.{row_at, named_at, place_at, rises}
+use Rattle.pg_dominion.proofs.RowsByPlace.{named_at, place_at, rises}
 use Rattle.std.proofs.Common.{eq-or-lt_of_le}
 
 -- the first so many rows are not settled for the player

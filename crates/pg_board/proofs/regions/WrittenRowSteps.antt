@@ -2,15 +2,14 @@
 use Rattle.pg_board.proofs.Common.{rules, ◌≡◌, ℕ, ◌<◌, false, [], ◌∷◌, ◌++◌, length, take, refl, length-append, Option, ◌==◌, if◌then◌else◌, nat_eq}
 use Rattle.pg_board.proofs.Common.{false_from_ne_true, and_parts, or_cases, eqb-true, eq-eqb, or-false, IsDistinct, Player, Graph, In, Within, members}
 use Rattle.pg_board.proofs.Common.{member_below, ClaimRows, named, IsAttractedRow, named-push, Regions, State, table_state, state_with, AreRegions, open_before}
-use Rattle.pg_board.proofs.Common.{HasWritten, read_set, true}
+use Rattle.pg_board.proofs.Common.{HasWritten, read_set, true, vertices, row_at}
 use Rattle.std.proofs.lemmas.List.Sums.{sum_by-set}
 use Rattle.pg_dominion.proofs.Rows.{choice-push_same, choice-push_other}
 use Rattle.pg_dominion.proofs.ListedVertices.{takes_one}
 use Rattle.pg_dominion.proofs.TakenRow.{extends_taken}
 use Rattle.pg_dominion.specs.AttractorState.{AttractsNoFurther}
 use Rattle.pg_board.specs.private.WrittenRows.{WritesInTurn}
-use Rattle.pg_board.proofs.RestIsGood.{vertices}
-use Rattle.pg_board.proofs.Places.{row_at, named_at, fresh_at}
+use Rattle.pg_dominion.proofs.RowsByPlace.{named_at, fresh_at}
 use Rattle.pg_board.proofs.regions.Tables.{AreRegions-settle, Settles}
 
 -- a vertex is settled, with its row

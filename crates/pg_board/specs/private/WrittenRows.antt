@@ -1,8 +1,8 @@
 -- A region that grows in place: vertices are settled one after another, each with its row.
-use Rattle.std.specs.Prelude.{ℕ, ◌≡◌, ◌≤◌, ◌+◌, Bool, false, List, length, sum_by, if◌then◌else◌}
+use Rattle.std.specs.Prelude.{ℕ, ◌≡◌, ◌≤◌, ◌+◌, false, length}
 use Rattle.pg_game.specs.declared.player.Player.{Player}
 use Rattle.pg_game.specs.Graph.{Graph}
-use Rattle.pg_game.specs.VertexSet.{VertexSet, In, members, union}
+use Rattle.pg_game.specs.VertexSet.{VertexSet, In, members, union, how_many}
 use Rattle.pg_dominion.specs.Claim.{ClaimRows, named}
 use Rattle.pg_dominion.specs.ExtendedRows.{Extends}
 use Rattle.pg_board.specs.declared.regions.Regions.{Regions}
@@ -13,15 +13,11 @@ use Rattle.pg_board.specs.private.Regions.{table_state, state_with, AreRegions}
 abbrev pub open_before : Regions → ClaimRows → VertexSet
 open_before r rows = union (members r.unsettled) (named rows)
 
--- the number of members of a mask
-abbrev pub members_left : List Bool → ℕ
-members_left mask = sum_by (λ b. if b then 1 else 0) mask
-
 -- the vertices of the rows are settled, and there is capacity for rows of all others
 pub record HasWritten (g : Graph) (r : Regions) (rows : ClaimRows) (spare : ℕ) : Type 0 where
   pub regions : AreRegions g r
   pub apart : (v : ℕ) → In (named rows) v → members r.unsettled v ≡ false
-  pub fits : length rows + members_left r.unsettled ≤ spare
+  pub fits : length rows + how_many r.unsettled ≤ spare
 
 -- the region with its rows before, and later: each new row leads to earlier ones, and the tables have them
 pub record WritesInTurn (g : Graph) (p : Player) (r : Regions) (rows : ClaimRows) (r' : Regions) (rows' : ClaimRows) : Type 0 where

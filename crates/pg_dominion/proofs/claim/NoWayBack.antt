@@ -6,8 +6,9 @@ use Rattle.pg_dominion.proofs.Common.{choice_in, is_bad, IsRightRow, AllByRecurs
 use Rattle.pg_dominion.proofs.Common.{ends_at}
 use Rattle.std.specs.Prelude.{MatchOption, slice_index}
 use Rattle.std.proofs.lemmas.List.{append_assoc}
-use Rattle.pg_dominion.proofs.AgreeingRows.{other_is}
-use Rattle.pg_dominion.proofs.Common.{same_is}
+use Rattle.pg_dominion.specs.Claim.{row_at}
+use Rattle.pg_dominion.proofs.RowsByPlace.{place_at}
+use Rattle.pg_dominion.proofs.Strategies.{ends_kept}
 use Rattle.pg_dominion.proofs.Rows.{named_right}
 use Rattle.pg_dominion.proofs.SearchSteps.{place_in, push_each, starts_in}
 
@@ -24,13 +25,8 @@ named_vertex g p rows xs v same right i = (named_right g p rows v right (rw (←
 
 module _ (g : Graph) (p : Player) (rows : ClaimRows) where
   -- what a right row keeps is what the claim keeps of its vertex
-  kept_cases : (v : ℕ) (c : Option ℕ) → IsRightRow g p (v, c) → choice_in rows v ≡ c → (b : Bool) → same_player (owner_of g v) p ≡ b
-      → ends_at g v c ≡ kept g p (choice_in rows) v
-  kept_cases v c a e true s = let q = a.own (same_is (owner_of g v) p s) in search (rules, e, s, q.1)
-  kept_cases v c a e false s = let q = a.other (other_is (owner_of g v) p s) in search (rules, e, s, q)
-
   pub kept_in_row : (v : ℕ) (c : Option ℕ) → IsRightRow g p (v, c) → choice_in rows v ≡ c → ends_at g v c ≡ kept g p (choice_in rows) v
-  kept_in_row v c a e = kept_cases v c a e (same_player (owner_of g v) p) refl
+  kept_in_row v c a e = ends_kept g p (choice_in rows) v c (λ o. let q = a.own o in (q.0, q.1, e ∙ q.1)) a.other
 
   pub LeadsToListed-from_row : (start : ℕ) (list : List ℕ) (v : ℕ) (ws : List ℕ) (n : ℕ) → ws ≡ kept g p (choice_in rows) v → length ws ≤ n
       → ((i : ℕ) → i < n → In (named rows) (slice_index ws i) → priority_of g (slice_index ws i) ≤ priority_of g start
@@ -67,19 +63,11 @@ module _ (g : Graph) (p : Player) (rows : ClaimRows) where
       = λ w c. (let q = place_in list list w refl c in subst (λ (x : ℕ). LeadsToListed g p rows start list x) q.2 (rest q.0 (omega (arith, q.1)))) in
       ends_elsewhere start list all start vs start first walk (omega (arith, top)) (starts start vs start walk) (omega arith) refl
 
-  -- the place of a named vertex
-  place_named : (xs : ClaimRows) (v : ℕ) → In (named xs) v → (i : ℕ) × (i < length xs) × ((get_or xs i (0, None)).0 ≡ v)
-  place_named [] v i = absurd (cc i)
-  place_named (r ∷ xs) v i = elim (cases_Bool (r.0 == v)) [
-    | inl t ↦ (0, omega arith, eqb-true r.0 v t)
-    | inr f ↦ (let q = place_named xs v (rw f at i) in (suc q.0, omega (arith, q.1), q.2))
-  ]
-
   -- none where no bad vertex of a row is the greatest on a closed walk
   pub none_from_rows : (xs : ClaimRows) (n : ℕ) → xs ≡ rows → length xs ≤ n
-      → ((i : ℕ) → i < n → is_bad g p (get_or xs i (0, None)).0 ≡ true → OnBadWalk g p (named rows) (choice_in rows) (get_or xs i (0, None)).0 → ⊥)
+      → ((i : ℕ) → i < n → is_bad g p (row_at xs i).0 ≡ true → OnBadWalk g p (named rows) (choice_in rows) (row_at xs i).0 → ⊥)
       → NoneHas (OnBadWalk g p (named rows) (choice_in rows))
-  none_from_rows xs n e l h v (vs, walk, top, parity) = search (rules, is_same, place_named, starts)
+  none_from_rows xs n e l h v (vs, walk, top, parity) = search (rules, is_same, place_at, starts)
 
 named_good : (g : Graph) (p : Player) (rows : ClaimRows) → list_any (λ r. is_bad g p r.0) rows ≡ false → (v : ℕ) → In (named rows) v
     → is_bad g p v ≡ false

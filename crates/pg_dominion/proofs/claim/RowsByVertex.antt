@@ -3,10 +3,10 @@ use Rattle.pg_dominion.proofs.Common.{◌≡◌, ℕ, ◌+◌, ◌<◌, Bool, tr
 use Rattle.pg_dominion.proofs.Common.{Option, Some, None, IfSome, take_more, take-append-drop, Player, same_player, Graph, IsGame, HasEdge}
 use Rattle.pg_dominion.proofs.Common.{owner_of, edge_inside, same_is, ClaimRows, named, choice_in, AreRight, IsRightRow, StrategyGraph, IsStrategy, is_bad}
 use Rattle.pg_dominion.specs.KeptEdges.{IsKeptWith}
-use Rattle.pg_dominion.proofs.Named.{choice-front}
-use Rattle.pg_dominion.proofs.Shape.{right_at, unnamed}
+use Rattle.pg_dominion.specs.Claim.{vertices, row_at}
+use Rattle.pg_dominion.proofs.RowsByPlace.{named_more, distinct_rising, choice_at}
+use Rattle.std.proofs.lemmas.List.Elements.{All-get_or, All-from_recursion}
 use Rattle.pg_dominion.proofs.AgreeingRows.{other_is}
-use Rattle.pg_dominion.proofs.Rows.{named-push, named-push_same, choice-push_same}
 use Rattle.pg_dominion.proofs.claim.NoWayBack.{kept_in_row}
 use Rattle.pg_dominion.proofs.Strategies.{strategy_next}
 
@@ -22,28 +22,19 @@ choice_below g p v (Some w) game a = go (same_player (owner_of g v) p) refl
 
 module _ (g : Graph) (p : Player) (rows : ClaimRows) (i : ℕ) (right : AreRight g p rows) (l : i < length rows) where
   abbrev row : ℕ × Option ℕ
-  row = get_or rows i (0, None)
+  row = row_at rows i
 
   pub row_is_right : IsRightRow g p row
-  row_is_right = (right_at g p rows i right l).0
-
-  more : take (i + 1) rows ≡ take i rows ++ row ∷ []
-  more = take_more rows i (0, None) l
-
-  new : named (take i rows) row.0 ≡ false
-  new = unnamed (take i rows) row.0 (right_at g p rows i right l).1
+  row_is_right = All-get_or (IsRightRow g p) rows i (0, None) l (All-from_recursion (IsRightRow g p) rows right.each)
 
   -- it has the choice of its vertex
   row_choice : choice_in rows row.0 ≡ row.1
-  row_choice =
-      ap (λ (xs : ClaimRows). choice_in xs row.0) (sym (take-append-drop (i + 1) rows))
-      ∙ choice-front (take (i + 1) rows) (drop (i + 1) rows) row.0 (rw more (named-push_same (take i rows) row))
-      ∙ rw more (choice-push_same (take i rows) row new)
+  row_choice = choice_at rows i (distinct_rising (vertices rows) right.rising) l
 
   -- it is kept with those before it
   pub row_is_kept : (k k' : StrategyGraph) → k.game.now ≡ g → IsKeptWith k row.0 (is_bad g p row.0) row.1 k'
       → IsStrategy k (named (take i rows)) (λ v. p) (choice_in rows) → IsStrategy k' (named (take (i + 1) rows)) (λ v. p) (choice_in rows)
   row_is_kept k k' same kept h = strategy_next (named (take i rows)) (λ v. p) k k' row.0 (is_bad g p row.0) row.1 (named (take (i + 1) rows))
       (choice_in rows) (choice_in rows) kept
-      (λ x. ap (λ (xs : ClaimRows). named xs x) more ∙ named-push (take i rows) row x) (λ x n. refl)
+      (λ x. named_more rows i x l) (λ x n. refl)
       (rw same (kept_in_row g p rows row.0 row.1 row_is_right row_choice)) (rw same refl) h

@@ -12,28 +12,31 @@ use Rattle.pg_game.specs.VertexSet.{all_vertices}
 use Rattle.pg_text.specs.Solution.{SolutionRows, choice_of, won_by}
 use Rattle.pg_text.specs.Verdict.{IsOnBadWalk}
 use Rattle.pg_text.proofs.Verdict.{won}
-use Rattle.pg_dominion.specs.KeptEdges.{IsKeptWith}
+use Rattle.pg_dominion.specs.KeptEdges.{own_choices, IsKeptWith}
+use Rattle.pg_game.specs.Kept.{Choices}
+use Rattle.pg_game.proofs.Players.{not_same}
 use Rattle.pg_dominion.specs.private.JointStrategy.{IsJointStrategy}
 use Rattle.pg_dominion.proofs.SearchSteps.{place_in}
-use Rattle.pg_dominion.proofs.Strategies.{below_next, strategy_next, bad_cycle_is_bad_walk}
+use Rattle.pg_dominion.proofs.Strategies.{below_next, strategy_next, ends_kept, bad_cycle_is_bad_walk}
 
 -- the choice that a winner keeps
-abbrev pub own_choice : Graph → SolutionRows → ℕ → Option ℕ
-own_choice g rows v = if same_player (owner_of g v) (winner_of rows v) then choice_of rows v else None
+abbrev pub own_choice : Graph → SolutionRows → Choices
+own_choice g rows v = own_choices g (winner_of rows v) (choice_of rows) v
 
 module _ (g : Graph) (rows : SolutionRows) (lacks : NoneHas (LacksChoice g rows)) (v : ℕ) (l : v < length g) where
-  own_fits : (b : Bool) → same_player (owner_of g v) (winner_of rows v) ≡ b → (c : Option ℕ) → choice_of rows v ≡ c
-      → ends_at g v (own_choice g rows v) ≡ kept g (winner_of rows v) (choice_of rows) v
-  own_fits true s None e = absurd (lacks v (l, same_is (owner_of g v) (winner_of rows v) s, e))
-  own_fits true s (Some w) e = rw (s, e) refl
-  own_fits false s c e = rw s refl
+  chosen : owner_of g v ≡ winner_of rows v → (c : Option ℕ) → choice_of rows v ≡ c → (w : ℕ) × (choice_of rows v ≡ Some w)
+  chosen o None e = absurd (lacks v (l, o, e))
+  chosen o (Some w) e = (w, e)
 
   -- a winner keeps the same, one vertex after another
   pub vertex_is_kept : (k k' : StrategyGraph) → k.game.now ≡ g → IsKeptWith k v (is_bad g (winner_of rows v) v) (own_choice g rows v) k'
       → IsStrategy k (λ x. nat_lt x v) (winner_of rows) (choice_of rows) → IsStrategy k' (λ x. nat_lt x (v + 1)) (winner_of rows) (choice_of rows)
   vertex_is_kept k k' same kept h = strategy_next (λ x. nat_lt x v) (winner_of rows) k k' v (is_bad g (winner_of rows v) v) (own_choice g rows v)
       (λ x. nat_lt x (v + 1)) (choice_of rows) (choice_of rows) kept (below_next v) (λ x n. refl)
-      (rw same (own_fits (same_player (owner_of g v) (winner_of rows v)) refl (choice_of rows v) refl)) (rw same refl) h
+      (rw same (ends_kept g (winner_of rows v) (choice_of rows) v (own_choice g rows v)
+      (λ o. let c = chosen o (choice_of rows v) refl in (c.0, rw (is_same (owner_of g v) (winner_of rows v) o) c.1, c.1))
+      (λ n. rw (not_same (owner_of g v) (winner_of rows v) n) refl)))
+      (rw same refl) h
 
 -- the choice that a winner keeps is a vertex
 pub own_below : (g : Graph) (rows : SolutionRows) → IsGame g → NoneHas (HasBadChoice g rows) → (v : ℕ) → v < length g → (c : Option ℕ)

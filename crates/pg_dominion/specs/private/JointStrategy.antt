@@ -1,5 +1,5 @@
 -- A solution's winners and choices as kept edges.
-use Rattle.std.specs.Prelude.{ℕ, ◌≢◌, ◌≤◌}
+use Rattle.std.specs.Prelude.{ℕ, ◌≢◌}
 use Rattle.pg_game.specs.VertexSet.{all_vertices}
 use Rattle.pg_text.specs.Solution.{SolutionRows, winner_of, choice_of}
 use Rattle.pg_dominion.specs.declared.strategy_graph.StrategyGraph.{StrategyGraph}
@@ -13,7 +13,3 @@ IsJointStrategy k rows = IsStrategy k (all_vertices k.game.now) (winner_of rows)
 -- an edge from v leads to the other winner's vertices
 abbrev pub LeavesTo : StrategyGraph → SolutionRows → ℕ → ℕ → Type 0
 LeavesTo k rows v w = Edge k v w × (winner_of rows w ≢ winner_of rows v)
-
-pub record IsFirstTo (k : StrategyGraph) (rows : SolutionRows) (v w : ℕ) : Type 0 where
-  pub leaves : LeavesTo k rows v w
-  pub least : (x : ℕ) → LeavesTo k rows v x → w ≤ x

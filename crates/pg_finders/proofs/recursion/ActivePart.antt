@@ -1,6 +1,6 @@
 -- What the loop owes where it begins the active part.
 use Rattle.pg_finders.proofs.Common.{◌≡◌, ℕ, ◌+◌, ◌-◌, ◌<◌, ◌≤◌, ◌&&◌, not, List, Bool, [], ◌∷◌, ◌++◌, length, take, refl, sym, ◌∙◌, ap, arith}
-use Rattle.pg_finders.proofs.Common.{length-append, Player, Even, Odd, Graph, Choices, VertexSet, Within, members, Frame, SettledLists, size, Winners}
+use Rattle.pg_finders.proofs.Common.{length-append, Player, Even, Odd, Graph, Choices, VertexSet, Within, members, Frame, SettledLists, how_many, Winners}
 use Rattle.pg_finders.proofs.Common.{how_many_gone, steps_left, steps, work, listed, without, settled_of, active_of, IsBegun, IsOrder, IsReady, IsSolverState}
 use Rattle.pg_finders.proofs.Common.{SameOutside, winners_of, choices_of, count_at}
 use Rattle.std.proofs.Common.{length-take}
@@ -16,13 +16,13 @@ use Rattle.pg_finders.proofs.recursion.StepBounds.{work_begin}
 -- the steps fall, since some vertex is set aside
 pub enters_fewer : {g : Graph} (inside : List Bool) {active active' : VertexSet} {settled : SettledLists} {set_aside added : List ℕ} {frames : List Frame}
     {f : Frame} {won won' : Winners} {s s' : Choices} → Begins g (members inside) active active' settled set_aside added frames f won won' s s'
-    → 0 < length added → steps (size inside - how_many_gone settled (set_aside ++ added)) + steps_left (size inside) (frames ++ f ∷ []) < steps
-    (size inside - how_many_gone settled set_aside) + steps_left (size inside) frames
+    → 0 < length added → steps (how_many inside - how_many_gone settled (set_aside ++ added)) + steps_left (how_many inside) (frames ++ f ∷ []) < steps
+    (how_many inside - how_many_gone settled set_aside) + steps_left (how_many inside) frames
 enters_fewer inside {settled = settled} {set_aside = set_aside} {added = added} {frames = frames} {f = f} b some =
     let even : f.even ≡ length (settled Even) = b.counts Even in
     let odd : f.odd ≡ length (settled Odd) = b.counts Odd in
     let now = open_levels_begin b in
-    work_begin (size inside) (how_many_gone settled set_aside) (how_many_gone settled (set_aside ++ added)) frames f
+    work_begin (how_many inside) (how_many_gone settled set_aside) (how_many_gone settled (set_aside ++ added)) frames f
     (omega (arith, even, odd, b.from)) (omega (arith, some, length-append set_aside added)) (lists_fit inside now.apart now.listed_inside)
 
 -- The active part is begun, and its attractor is listed, the greatest vertices first. Of the solver no other list has changed.
@@ -50,7 +50,7 @@ pub order_fewer : {g : Graph} {A B : VertexSet} {order : Order} → Within B A �
 order_fewer l o = record { right = o.right; rising = o.rising; distinct = o.distinct; upto = o.upto; stand = λ v i. o.stand v (l v i) }
 
 -- Then it waits.
-module _ {g : Graph} {inside : List Bool} {x y z : Solver} {p : Player} {k even odd : ℕ} (h : IsSolverState g inside x x.frames.items)
+module _ {g : Graph} {inside : List Bool} {x y z : Solver} {p : Player} {k even odd : ℕ} (h : IsSolverState g inside x)
     (w : Waits p k even odd y z) (b : BeginsPart g p k even odd x y) where
   abbrev f : Frame
   f = frame_of p k even odd y
@@ -78,7 +78,7 @@ module _ {g : Graph} {inside : List Bool} {x y z : Solver} {p : Player} {k even 
     upto = refl;
   }
 
-  pub entered : IsSolverState g inside z z.frames.items
+  pub entered : IsSolverState g inside z
   entered = record {
     inside_length = h.inside_length;
     whole = w.size ∙ (b.size ∙ h.whole);
@@ -89,7 +89,7 @@ module _ {g : Graph} {inside : List Bool} {x y z : Solver} {p : Player} {k even 
     open_levels = rw (w.parts, w.set_aside, w.frames) (open_levels_begin begins);
   }
 
-  pub entered_fewer : work (size inside) z z.frames.items < work (size inside) x x.frames.items
+  pub entered_fewer : work (how_many inside) z < work (how_many inside) x
   entered_fewer =
       let s = b.begun.some in
       rw (w.parts, w.set_aside, w.frames, ← b.settled, ← b.set_aside, ← b.frames)

@@ -1,14 +1,14 @@
 -- A player attracts free vertices: what is settled once one is taken, and once all are that he attracts.
-use Rattle.pg_finders.proofs.Common.{◌≡◌, ◌≢◌, ℕ, ◌+◌, ◌<◌, ◌≤◌, true, false, ◌&&◌, ◌||◌, not, ◌⊎◌, inl, inr, List, [], ◌∷◌, ◌++◌}
+use Rattle.pg_finders.proofs.Common.{◌≡◌, ◌≢◌, ℕ, ◌<◌, false, ◌&&◌, ◌||◌, not, ◌⊎◌, inl, inr, List, [], ◌∷◌, ◌++◌}
 use Rattle.pg_finders.proofs.Common.{length, drop, take, refl, sym, ◌∙◌}
-use Rattle.pg_finders.proofs.Common.{ap, subst, arith, fun_ext, append_assoc, length-append, append-nil, take-append-drop, replicate}
-use Rattle.pg_finders.proofs.Common.{length-replicate, ◌==◌, eq-eqb, or_cases, or_left, or_right}
+use Rattle.pg_finders.proofs.Common.{ap, subst, fun_ext, append_assoc, append-nil, take-append-drop}
+use Rattle.pg_finders.proofs.Common.{◌==◌, eq-eqb, or_cases, or_left, or_right}
 use Rattle.pg_finders.proofs.Common.{false_from_ne_true, cases_Bool, own_or_other, Player, Even, Odd, opponent, Graph, HasEdge}
 use Rattle.pg_finders.proofs.Common.{owner_of, VertexSet, In, members}
-use Rattle.pg_finders.proofs.Common.{union, without, listed, Once, Apart, settled_of, active_of, HasTaken, IsTested, AttractsNoActive}
+use Rattle.pg_finders.proofs.Common.{union, without, listed, Apart, settled_of, active_of, HasTaken, IsTested, AttractsNoActive}
 use Rattle.pg_finders.proofs.Common.{Option, Some, None, IsAttractedRow}
 use Rattle.std.proofs.lemmas.Bool.{and_right, not_from_true}
-use Rattle.std.proofs.lemmas.List.{append_cancel_left, get_or-replicate}
+use Rattle.std.proofs.lemmas.List.{append_cancel_left}
 use Rattle.pg_game.proofs.Players.{not_own}
 use Rattle.pg_dominion.specs.AttractorState.{AttractsNoFurther}
 use Rattle.pg_finders.specs.declared.recursion.parts.Parts.{Parts}
@@ -19,14 +19,13 @@ use Rattle.pg_finders.specs.private.recursion.Parts.{LosesFree, AttractsFree}
 use Rattle.pg_finders.specs.private.recursion.Places.{stands}
 use Rattle.pg_finders.specs.private.recursion.KeptParts.{fewer_then}
 use Rattle.pg_finders.proofs.Sets.{twice, no_both, only, minus, equal_from}
-use Rattle.pg_finders.proofs.Sizes.{size_below}
-use Rattle.pg_finders.proofs.recursion.ListsAsSets.{in_prefix, prefix_or_rest, in_take, in_drop, take_or_drop, one_listed, once_join}
+use Rattle.pg_finders.proofs.recursion.ListsAsSets.{in_prefix, prefix_or_rest, in_take, in_drop, take_or_drop, one_listed}
 use Rattle.pg_finders.proofs.recursion.ListsAsSets.{take_apart, apart_other}
-use Rattle.pg_finders.proofs.recursion.ListsAsSets.{all_below, once_fits}
+use Rattle.pg_finders.proofs.recursion.ListsAsSets.{all_below}
 use Rattle.pg_finders.proofs.recursion.AttractionSteps.{grown_none, grown_one, grown_then, grown_prefix, grown_union, once_push}
 use Rattle.pg_finders.proofs.recursion.AttractionSteps.{apart_push, no_further}
 use Rattle.pg_finders.proofs.recursion.RepeatedAttraction.{all_listed, tested_done}
-use Rattle.pg_finders.proofs.recursion.PlacedLists.{places_differ, places_once}
+use Rattle.pg_finders.proofs.recursion.PlacedLists.{lists_once}
 use Rattle.pg_finders.proofs.recursion.FreeParts.{free_is, settled_free, free_below, not_listed}
 
 -- ---- the settled lists
@@ -34,9 +33,6 @@ use Rattle.pg_finders.proofs.recursion.FreeParts.{free_is, settled_free, free_be
 nothing_listed : (xs : List ℕ) → ((v : ℕ) → In (listed xs) v → ⊥) → xs ≡ []
 nothing_listed [] f = refl
 nothing_listed (x ∷ xs) f = absurd (f x (rw (eq-eqb x x refl) refl))
-
-once_settled : {n : ℕ} (x : Settled) → IsPlaced n x → (p : Player) → Once (settled_of x p)
-once_settled {n} x h p = places_once (settled_of x p) (places_differ x.places.items (settled_of x p) (h.table p))
 
 players_apart : {n : ℕ} (x : Settled) → IsPlaced n x → (p : Player) → Apart (settled_of x p) (settled_of x (opponent p))
 players_apart x h Even = h.players
@@ -97,7 +93,7 @@ module _ {n : ℕ} {x y : Parts} (a : AreParts n x) (h : AreFewerParts x y) (b :
   unlisted_own j = elim (take_or_drop x.from (settled_of y.settled x.player) v j) [
     | inl k ↦ (let k' = subst (λ xs. In (listed xs) v) h.own k in
         no_both (rest x.player (in_take x.from (settled_of x.settled x.player) v k'))
-        (take_apart x.from (settled_of x.settled x.player) (once_settled x.settled a.placed x.player) v k'))
+        (take_apart x.from (settled_of x.settled x.player) (lists_once a.placed x.player) v k'))
     | inr k ↦ no_both (free_is b v ∙ or_right (active_of y.subgame v) (listed (rest_of y) v) (subst (λ xs. In (listed xs) v) (rest_as h) k)) gone
   ]
 
@@ -224,20 +220,6 @@ module _ {x y : Parts} (m : MovesCursors x y) where
       (subst (λ F. HasTaken g p before old prefix F x.subgame.plan (first ++ list)) (sym (fun_ext free_moved)) t))
 
 -- ---- all is taken that the player attracts
-
--- what is listed can be settled: all is below n
-pub few_listed : {n : ℕ} {x : Parts} {list : List ℕ} → FitParts n x list → (p : Player) → length (settled_of x.settled p) + length list ≤ n
-few_listed {n} {x} {list} f p =
-    let xs = settled_of x.settled p in
-    let fits = once_fits (xs ++ list) (replicate n true) (once_join xs list (once_settled x.settled f.parts.placed p) f.once (f.unsettled p))
-    (λ v i. get_or-replicate n v true false (below v i)) in
-    omega (arith, fits, size_below (replicate n true), length-replicate n true, length-append xs list)
-  where
-    below : (v : ℕ) → In (listed (settled_of x.settled p ++ list)) v → v < n
-    below v i = elim (prefix_or_rest (settled_of x.settled p) list v i) [
-      | inl k ↦ all_listed (λ u. u < n) (settled_of x.settled p) (f.parts.placed.below p) v k
-      | inr k ↦ all_listed (λ u. u < n) list f.below v k
-    ]
 
 -- what is free or listed is below n
 pub fit_below : {n : ℕ} {x : Parts} {list : List ℕ} → FitParts n x list → (v : ℕ) → In (union (free_of x) (listed list)) v → v < n

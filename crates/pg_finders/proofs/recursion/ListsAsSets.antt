@@ -1,12 +1,11 @@
 -- Lists of vertices as sets.
 use Rattle.pg_finders.proofs.Common.{◌≡◌, ℕ, zero, suc, ◌<◌, ◌≤◌, Bool, true, false, ◌||◌, ◌⊎◌, inl, inr, List, [], ◌∷◌, ◌++◌, length, take, drop, get_or, All}
 use Rattle.pg_finders.proofs.Common.{refl, sym, ◌∙◌, subst, arith, rules, ◌==◌, slice_set, eqb-true, eq-eqb, or_cases, or_left, or_right, false_from_ne_true}
-use Rattle.pg_finders.proofs.Common.{take-append-drop, In, members, or_parts, listed, Once, Apart, size}
+use Rattle.pg_finders.proofs.Common.{take-append-drop, In, members, or_parts, listed, Once, Apart, how_many}
 use Rattle.std.proofs.lemmas.List.{get_or-set_other}
 use Rattle.std.proofs.lemmas.List.Folds.{list_any-append}
 use Rattle.pg_finders.proofs.Sets.{no_both, only}
-use Rattle.pg_finders.proofs.Sizes.{size_drop, some_member}
-use Rattle.pg_finders.proofs.Masks.{members-unset}
+use Rattle.pg_finders.proofs.Masks.{members-unset, how_many-unset, some_member}
 
 pub listed-append : (xs ys : List ℕ) (v : ℕ) → listed (xs ++ ys) v ≡ (listed xs v || listed ys v)
 listed-append xs ys v = list_any-append (λ u. u == v) xs ys
@@ -78,12 +77,12 @@ pub take_apart : (k : ℕ) (xs : List ℕ) → Once xs → Apart (take k xs) (dr
 take_apart k xs o = once_apart (take k xs) (drop k xs) (subst Once (sym (take-append-drop k xs)) o)
 
 -- a list of different vertices of a mask is no longer than the mask has vertices
-pub once_fits : (xs : List ℕ) (mask : List Bool) → Once xs → ((v : ℕ) → In (listed xs) v → members mask v ≡ true) → length xs ≤ size mask
+pub once_fits : (xs : List ℕ) (mask : List Bool) → Once xs → ((v : ℕ) → In (listed xs) v → members mask v ≡ true) → length xs ≤ how_many mask
 once_fits [] mask o f = omega arith
 once_fits (x ∷ xs) mask o f =
     let here : members mask x ≡ true = f x (rw (eq-eqb x x refl) refl) in
     let h = once_fits xs (slice_set mask x false) o.1 (λ v i. kept v i (x == v) refl (f v)) in
-    omega (arith, h, size_drop mask x here)
+    omega (arith, h, how_many-unset mask x here)
   where
     kept : (v : ℕ) → listed xs v ≡ true → (b : Bool) → (x == v) ≡ b → (((x == v) || listed xs v) ≡ true → members mask v ≡ true)
         → members (slice_set mask x false) v ≡ true
@@ -91,14 +90,14 @@ once_fits (x ∷ xs) mask o f =
     kept v i false e f = get_or-set_other mask x v false false (λ q. grind (arith, eq-eqb x v (sym q))) ∙ f (rw (e, i) refl)
 
 -- of a mask that has more vertices than the list, one is not listed
-pub missing : (xs : List ℕ) (mask : List Bool) → length xs < size mask → (v : ℕ) × (members mask v ≡ true) × (listed xs v ≡ false)
+pub missing : (xs : List ℕ) (mask : List Bool) → length xs < how_many mask → (v : ℕ) × (members mask v ≡ true) × (listed xs v ≡ false)
 missing [] mask l = let h = some_member mask (omega (arith, l)) in (h.0, h.1, refl)
 missing (x ∷ xs) mask l = go (members mask x) refl (missing xs)
   where
-    go : (b : Bool) → members mask x ≡ b → ((m : List Bool) → length xs < size m → (v : ℕ) × (members m v ≡ true) × (listed xs v ≡ false))
+    go : (b : Bool) → members mask x ≡ b → ((m : List Bool) → length xs < how_many m → (v : ℕ) × (members m v ≡ true) × (listed xs v ≡ false))
         → (v : ℕ) × (members mask v ≡ true) × (listed (x ∷ xs) v ≡ false)
     go true e more =
-        let h = more (slice_set mask x false) (omega (arith, l, size_drop mask x e)) in
+        let h = more (slice_set mask x false) (omega (arith, l, how_many-unset mask x e)) in
         let o = only (members mask h.0) (x == h.0) (sym (members-unset mask x h.0) ∙ h.1) in
         (h.0, o.0, rw (o.1, h.2) refl)
     go false e more =

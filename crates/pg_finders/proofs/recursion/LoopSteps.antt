@@ -3,11 +3,15 @@ use Rattle.pg_finders.proofs.Common.{◌≡◌, ◌≢◌, ℕ, ◌+◌, ◌-◌
 use Rattle.pg_finders.proofs.Common.{refl, sym, ◌∙◌, ap, subst, arith, length-append, rules, fun_ext, ◌==◌, eqb-true, or_cases, and_parts, and_from}
 use Rattle.pg_finders.proofs.Common.{false_from_ne_true, cases_lt, and-true, map-append, take-append-le, take_all, common_steps, Player, Even, Odd, opponent, Graph}
 use Rattle.pg_finders.proofs.Common.{VertexSet, In, members, no_vertices, Choices, same_is, is_same, Frame, Winners, IsSolvedInside, IsSolvedTo, IsBegun}
-use Rattle.pg_finders.proofs.Common.{won_inside, Level, AreLevels, listed, Once, Apart, SettledLists, size, gone, part, count_at, prefix, level_at, Linked}
-use Rattle.pg_finders.proofs.Common.{AreApart, AreOpenLevels, how_many_gone}
+use Rattle.pg_finders.proofs.Common.{won_inside, Level, AreLevels, listed, Once, Apart, SettledLists, how_many, gone, part, count_at, prefix, level_at, Linked}
+use Rattle.pg_finders.proofs.Common.{AreApart, AreOpenLevels, IsAtEnd, how_many_gone, active_of, settled_of, winners_of, choices_of}
+use Rattle.pg_finders.specs.declared.recursion.Solver.{Solver}
+use Rattle.pg_finders.proofs.Common.{vec_len}
+use Rattle.std.proofs.Common.{Global, Vec}
 use Rattle.std.proofs.Common.{length-take}
+use Rattle.std.proofs.lemmas.List.{length_push}
 use Rattle.std.proofs.Math.Bool.{or_assoc}
-use Rattle.std.proofs.Math.Seq.{take-append-add, drop-append_seam}
+use Rattle.std.proofs.Math.Seq.{take-append_seam, take-append-add, drop-append_seam}
 use Rattle.pg_finders.proofs.Sets.{minus, minus_both, no_both, equal_from, unless}
 use Rattle.pg_finders.proofs.recursion.ListsAsSets.{listed-append, prefix_or_rest, in_take, in_drop, take_or_drop, once_join, once_take, take_apart, apart_from}
 use Rattle.pg_finders.proofs.recursion.ListsAsSets.{once_fits, missing}
@@ -32,14 +36,14 @@ all_gone_length settled set_aside = omega (arith, length-append (settled Even ++
 
 -- the lists together are no longer than the mask has vertices
 pub lists_fit : {settled : SettledLists} {set_aside : List ℕ} (mask : List Bool) → AreApart settled set_aside
-    → ((v : ℕ) → In (gone settled set_aside) v → In (members mask) v) → how_many_gone settled set_aside ≤ size mask
+    → ((v : ℕ) → In (gone settled set_aside) v → In (members mask) v) → how_many_gone settled set_aside ≤ how_many mask
 lists_fit {settled} {set_aside} mask a inside =
     let h = once_fits (all_gone settled set_aside) mask (all_gone_once settled set_aside a) (λ v i. inside v (sym (all_gone_is settled set_aside v) ∙ i)) in
     omega (arith, h, all_gone_length settled set_aside)
 
 -- where the lists are that long, nothing is active
 pub none_active : {g : Graph} (mask : List Bool) {active : VertexSet} {settled : SettledLists} {set_aside : List ℕ} {frames : List Frame} {won : Winners}
-    {s : Choices} → AreOpenLevels g (members mask) active settled set_aside frames won s → how_many_gone settled set_aside ≡ size mask → (v : ℕ) → active v ≡ false
+    {s : Choices} → AreOpenLevels g (members mask) active settled set_aside frames won s → how_many_gone settled set_aside ≡ how_many mask → (v : ℕ) → active v ≡ false
 none_active mask {active} {settled} {set_aside} h e v = false_from_ne_true (active v) (λ i.
     (let c = part_of (members mask) settled set_aside v (sym (h.active_is v) ∙ i) in
     let fresh : listed (all_gone settled set_aside) v ≡ false = all_gone_is settled set_aside v ∙ gone_none settled set_aside v c.1 c.2 in
@@ -52,10 +56,10 @@ none_active mask {active} {settled} {set_aside} h e v = false_from_ne_true (acti
 
 -- and where they are shorter, a vertex is
 pub some_active : {g : Graph} (mask : List Bool) {active : VertexSet} {settled : SettledLists} {set_aside : List ℕ} {frames : List Frame} {won : Winners}
-    {s : Choices} → AreOpenLevels g (members mask) active settled set_aside frames won s → how_many_gone settled set_aside ≢ size mask → (v : ℕ) × In active v
+    {s : Choices} → AreOpenLevels g (members mask) active settled set_aside frames won s → how_many_gone settled set_aside ≢ how_many mask → (v : ℕ) × In active v
 some_active mask {settled = settled} {set_aside = set_aside} h n =
     let fits = lists_fit mask h.apart h.listed_inside in
-    elim (cases_lt (how_many_gone settled set_aside) (size mask)) [
+    elim (cases_lt (how_many_gone settled set_aside) (how_many mask)) [
       | inl l ↦ (
           let m = missing (all_gone settled set_aside) mask (omega (arith, l, all_gone_length settled set_aside)) in
           (m.0, h.active_is m.0 ∙ minus m.1 (sym (all_gone_is settled set_aside m.0) ∙ m.2)))
@@ -182,8 +186,8 @@ module _ {g : Graph} {U active : VertexSet} {settled : SettledLists} {set_aside 
       → count_at f p ≤ length (settled p)) × (f.upto ≡ length set_aside)
   links = linked_pop (λ p. 0) (λ p. length (settled p)) 0 frames (length set_aside) f h.linked
 
-  pub stop_fits : ((p : Player) → count_at f p ≤ length (settled p)) × (f.set_aside ≤ length set_aside)
-  stop_fits = (links.2, omega (arith, links.1.0, links.1.1, links.3))
+  pub counts_fit : (p : Player) → count_at f p ≤ length (settled p)
+  counts_fit = links.2
 
   popped : AreLevels g U (map (level_at U settled set_aside) frames) last.inside won s × IsBegun g last.inside last.tops last.left f.player won s
       × IsSolvedTo g last.left active won s
@@ -346,6 +350,24 @@ module _ {g : Graph} {U active : VertexSet} {settled : SettledLists} {set_aside 
 
     pub finish_more : 0 < length own + length other → f.even + f.odd + f.set_aside < how_many_gone settled' A
     finish_more l = search (rules, f.even, f.odd, f.player, length_aside, is, length-append, counts)
+
+-- the levels of a solver at the end of its last one, and that the frame's counts fit
+pub end_levels : {g : Graph} {mask : List Bool} {x : Solver} {f : Frame} (h : IsAtEnd g mask x f)
+    → AreOpenLevels g (members mask) (active_of x.parts.subgame) (settled_of x.parts.settled) x.set_aside.items (h.before ++ f ∷ [])
+    (winners_of x.parts.subgame.plan) (choices_of x.parts.subgame.plan)
+end_levels h = rw (← h.last) h.running.open_levels
+
+pub end_counts : {g : Graph} {mask : List Bool} {x : Solver} {f : Frame} → IsAtEnd g mask x f → (p : Player)
+    → count_at f p ≤ length (settled_of x.parts.settled p)
+end_counts {f = f} h = counts_fit h.before f (end_levels h)
+
+-- the frame is the one that is popped
+pub last_popped : (v : Vec Frame Global) (before : List Frame) (f : Frame) {rest : List Frame} → v.items ≡ before ++ f ∷ [] → rest ≡ take (vec_len v - 1) v.items
+    → v.items ≡ rest ++ f ∷ []
+last_popped v before f {rest} last is =
+    let n : vec_len v - 1 ≡ length before = omega (arith, v.ok.0, ap length last, length_push before f) in
+    let same : rest ≡ before = is ∙ rw (n, last) (take-append_seam before (f ∷ [])) in
+    last ∙ ap (λ fs. fs ++ f ∷ []) (sym same)
 
 -- where nothing is active and nothing waits, all is solved
 pub open_levels_done : {g : Graph} {U active : VertexSet} {settled : SettledLists} {set_aside : List ℕ} {frames : List Frame} {won : Winners} {s : Choices}

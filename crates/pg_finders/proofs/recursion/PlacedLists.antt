@@ -2,14 +2,16 @@
 use Rattle.pg_finders.proofs.Common.{◌≡◌, ◌≢◌, ℕ, suc, ◌+◌, ◌-◌, ◌<◌, ◌≤◌, true, false, ◌&&◌, ◌||◌, not, ◌⊎◌, inl, inr, List, [], ◌∷◌, ◌++◌}
 use Rattle.pg_finders.proofs.Common.{length, take, drop, refl, sym, ◌∙◌, ap, subst, arith, below_more, or_parts, ◌==◌, eqb-true, eq-eqb, or_cases, cases_Bool, false_from_ne_true}
 use Rattle.pg_finders.proofs.Common.{slice_index_or, slice_set, get_or-set_same, get_or-set_other, get_or-take, get_or_default, length-set, common_steps, In, listed, Once, Apart, All, Player, Even, Odd, opponent, cases_lt}
+use Rattle.pg_finders.proofs.Common.{replicate, length-replicate, length-append, count_by-le-length}
 use Rattle.std.proofs.Common.{nat_lt}
 use Rattle.std.proofs.lemmas.Bool.{lt-ltb, le-ltb}
-use Rattle.std.proofs.lemmas.List.{get_or-drop, length-drop, length-take-le, take-set-le, take_more}
+use Rattle.std.proofs.lemmas.List.{get_or-drop, get_or-replicate, length-drop, length-take-le, take-set-le, take_more}
 use Rattle.std.specs.List.{swap_remove}
+use Rattle.std.specs.Prelude.{◌^◌}
 use Rattle.pg_finders.specs.private.recursion.Places.{HasPlaces, ArePlaced, stands}
 use Rattle.pg_finders.specs.private.recursion.Settled.{IsWithout}
 use Rattle.pg_finders.proofs.Sets.{no_both, equal_from, minus, only}
-use Rattle.pg_finders.proofs.recursion.ListsAsSets.{listed_get, listed-append, prefix_or_rest, apart_from, apart_other, all_below}
+use Rattle.pg_finders.proofs.recursion.ListsAsSets.{listed_get, listed-append, prefix_or_rest, once_join, once_fits, apart_from, apart_other, all_below}
 use Rattle.pg_finders.proofs.recursion.RepeatedAttraction.{all_listed}
 use Rattle.pg_finders.proofs.recursion.PriorityOrder.{distinct_once}
 
@@ -208,6 +210,7 @@ pub placed_append : {n : ℕ} {places places' : List ℕ} {lists lists' : Player
     → ArePlaced n places' lists'
 placed_append {n} {places} {places'} {lists} {lists'} Even vs h own other len table others below fresh = record {
   size = len ∙ h.size;
+  few = h.few;
   below = for_each (λ q. All (λ v. v < n) (lists' q)) (joined_below n (lists Even) vs (lists' Even) own (h.below Even) below)
       (subst (λ ys. All (λ v. v < n) ys) (sym other) (h.below Odd));
   table = for_each (λ q. HasPlaces places' (lists' q)) table (subst (HasPlaces places') (sym other) (others (lists Odd) (h.table Odd) (fresh Odd)));
@@ -220,6 +223,7 @@ placed_append {n} {places} {places'} {lists} {lists'} Even vs h own other len ta
 }
 placed_append {n} {places} {places'} {lists} {lists'} Odd vs h own other len table others below fresh = record {
   size = len ∙ h.size;
+  few = h.few;
   below = for_each (λ q. All (λ v. v < n) (lists' q)) (subst (λ ys. All (λ v. v < n) ys) (sym other) (h.below Even))
       (joined_below n (lists Odd) vs (lists' Odd) own (h.below Odd) below);
   table = for_each (λ q. HasPlaces places' (lists' q)) (subst (HasPlaces places') (sym other) (others (lists Even) (h.table Even) (fresh Even))) table;
@@ -231,6 +235,21 @@ placed_append {n} {places} {places'} {lists} {lists'} Odd vs h own other len tab
       ]));
 }
 
+-- no number is twice in a list
+pub lists_once : {n : ℕ} {places : List ℕ} {lists : Player → List ℕ} → ArePlaced n places lists → (p : Player) → Once (lists p)
+lists_once {places = places} {lists = lists} h p = places_once (lists p) (places_differ places (lists p) (h.table p))
+
+-- with others below n it is no longer than n
+pub few_placed : {n : ℕ} {places : List ℕ} {lists : Player → List ℕ} (vs : List ℕ) → ArePlaced n places lists → All (λ v. v < n) vs → Once vs
+    → ((p : Player) → Apart (lists p) vs) → (p : Player) → length (lists p) + length vs < 2 ^ 32
+few_placed {n} {lists = lists} vs h below once fresh p =
+    let fits = once_fits (lists p ++ vs) (replicate n true) (once_join (lists p) vs (lists_once h p) once (fresh p))
+    (λ v i. get_or-replicate n v true false (elim (prefix_or_rest (lists p) vs v i) [
+      | inl k ↦ all_listed (λ u. u < n) (lists p) (h.below p) v k
+      | inr k ↦ all_listed (λ u. u < n) vs below v k
+    ])) in
+    omega (arith, fits, h.few, count_by-le-length (λ b. b) (replicate n true), length-replicate n true, length-append (lists p) vs)
+
 -- what is listed still was listed
 pub fewer_without : {v : ℕ} {old new : List ℕ} → In (listed old) v → IsWithout v old new → (w : ℕ) → In (listed new) w → In (listed old) w
 fewer_without {v} {old} i h w j = (only (listed old w) (v == w) (sym (h.from 0 w i) ∙ j)).0
@@ -241,6 +260,7 @@ pub placed_remove : {n : ℕ} {places places' : List ℕ} {lists lists' : Player
     → HasPlaces places' (lists' p) → ((ys : List ℕ) → HasPlaces places ys → Apart ys (lists p) → HasPlaces places' ys) → ArePlaced n places' lists'
 placed_remove {n} {places} {places'} {lists} {lists'} Even v h i own other len table others = record {
   size = len ∙ h.size;
+  few = h.few;
   below = for_each (λ q. All (λ u. u < n) (lists' q))
       (all_below n (lists' Even) (λ w j. all_listed (λ u. u < n) (lists Even) (h.below Even) w (fewer_without i own w j)))
       (subst (λ ys. All (λ u. u < n) ys) (sym other) (h.below Odd));
@@ -251,6 +271,7 @@ placed_remove {n} {places} {places'} {lists} {lists'} Even v h i own other len t
 }
 placed_remove {n} {places} {places'} {lists} {lists'} Odd v h i own other len table others = record {
   size = len ∙ h.size;
+  few = h.few;
   below = for_each (λ q. All (λ u. u < n) (lists' q)) (subst (λ ys. All (λ u. u < n) ys) (sym other) (h.below Even))
       (all_below n (lists' Odd) (λ w j. all_listed (λ u. u < n) (lists Odd) (h.below Odd) w (fewer_without i own w j)));
   table = for_each (λ q. HasPlaces places' (lists' q)) (subst (HasPlaces places') (sym other) (others (lists Even) (h.table Even) h.players)) table;

@@ -2,7 +2,7 @@
 use Rattle.pg_finders.proofs.Common.{◌≡◌, ◌≢◌, ℕ, ◌+◌, ◌-◌, ◌<◌, Bool, false, ◌&&◌, not, ◌⊎◌, inl, inr, List, [], ◌∷◌, ◌++◌, length, take, drop}
 use Rattle.pg_finders.proofs.Common.{refl, sym, ◌∙◌, ap, subst, arith, append_assoc, length-append, fun_ext, append-nil, take-append-drop, ◌==◌, eq-eqb, or_left, or_right, or_cases}
 use Rattle.pg_finders.proofs.Common.{and-true, cases_Bool, false_from_ne_true, Player, Even, Odd, opponent, Graph, HasEdge, owner_of, VertexSet, In, members, union, without}
-use Rattle.pg_finders.proofs.Common.{IsSubgame, own_or_other, Some, Plan, Frame, listed, Once, SettledLists, winners_of, choices_of, SameAt, size, IsBegun, IsSolvedInside, IsSolvedTo}
+use Rattle.pg_finders.proofs.Common.{IsSubgame, own_or_other, Some, Plan, Frame, listed, Once, SettledLists, winners_of, choices_of, SameAt, how_many, IsBegun, IsSolvedInside, IsSolvedTo}
 use Rattle.pg_finders.proofs.Common.{IsAttracted, won_inside, WinsOn, place, HasTaken, AttractsNoActive, count_at, prefix, level_at, AreOpenLevels, gone, how_many_gone, steps, steps_left}
 use Rattle.std.proofs.Common.{length-drop, length-take}
 use Rattle.std.proofs.lemmas.List.{append_cancel_left}
@@ -13,7 +13,7 @@ use Rattle.pg_finders.proofs.SolvedSubgames.{solved_none, IsSolvedTo-subst, IsSu
 use Rattle.pg_finders.proofs.KeptSubgames.{attracted_again, subgame_again, left_again, begun_again, still_held, still_solved}
 use Rattle.pg_finders.proofs.recursion.AttractionSteps.{grown_attracted}
 use Rattle.pg_finders.proofs.recursion.SharedLists.{pick}
-use Rattle.pg_finders.proofs.recursion.LoopSteps.{Finishes, Begins, lists_fit, stop_fits, last_begun, since_inside, since_left, left_solved, won_since, finish_more}
+use Rattle.pg_finders.proofs.recursion.LoopSteps.{Finishes, Begins, lists_fit, counts_fit, last_begun, since_inside, since_left, left_solved, won_since, finish_more}
 use Rattle.pg_finders.proofs.recursion.LoopSteps.{open_levels_begin, open_levels_finish}
 use Rattle.pg_finders.proofs.recursion.KeptLevels.{SettlesMore, open_levels_settle, longer, work_resume, work_drop}
 
@@ -130,7 +130,7 @@ module _ {g : Graph} {U : VertexSet} {frames : List Frame} {f : Frame} {active :
   other_between = ap (λ xs. prefix f settled q ++ xs) (pick_other p [] B)
 
   pub own_length : length (between p) ≡ count_at f p
-  own_length = (let a = (stop_fits frames f h.run).0 p in
+  own_length = (let a = counts_fit frames f h.run p in
       ap length own_between ∙ omega (arith, a, length-take (count_at f p) (settled p)))
 
   pub other_same : between q ≡ settled q ++ taken
@@ -165,7 +165,7 @@ module _ {g : Graph} {U : VertexSet} {frames : List Frame} {f : Frame} {active :
   finished = open_levels_finish frames f h.run finishes
 
   some_lost : 0 < length B
-  some_lost = (let a = (stop_fits frames f h.run).0 q in omega (arith, a, h.some, length-drop (count_at f q) (settled q), length-append (since q) taken))
+  some_lost = (let a = counts_fit frames f h.run q in omega (arith, a, h.some, length-drop (count_at f q) (settled q), length-append (since q) taken))
 
   finished_more : f.even + f.odd + f.set_aside < how_many_gone between left_aside
   finished_more = finish_more frames f h.run finishes (omega (arith, some_lost))
@@ -322,15 +322,15 @@ module _ {g : Graph} {U : VertexSet} {frames : List Frame} {f : Frame} {active :
     pub resumed_levels : AreOpenLevels g U Q settled' (left_aside ++ aside) (frames ++ f' ∷ []) (winners_of new) (choices_of new)
     resumed_levels = open_levels_settle (open_levels_begin begins) settles
 
-    pub resumed_fewer : (mask : List Bool) → members mask ≡ U → (m : ℕ) → steps (size mask - how_many_gone settled' (left_aside ++ aside))
-        + steps_left (size mask) (frames ++ f' ∷ []) < steps (size mask - m) + steps_left (size mask) (frames ++ f ∷ [])
+    pub resumed_fewer : (mask : List Bool) → members mask ≡ U → (m : ℕ) → steps (how_many mask - how_many_gone settled' (left_aside ++ aside))
+        + steps_left (how_many mask) (frames ++ f' ∷ []) < steps (how_many mask - m) + steps_left (how_many mask) (frames ++ f ∷ [])
     resumed_fewer mask same m =
         let even : f'.even ≡ length (between Even) = counts Even in
         let odd : f'.odd ≡ length (between Odd) = counts Odd in
         let more_even = longer (open_levels_begin begins) settles Even in
         let more_odd = longer (open_levels_begin begins) settles Odd in
         let l = h.shrunk.few in
-        work_resume (size mask) m (how_many_gone between left_aside) (how_many_gone between (left_aside ++ aside)) (how_many_gone settled' (left_aside ++ aside))
+        work_resume (how_many mask) m (how_many_gone between left_aside) (how_many_gone between (left_aside ++ aside)) (how_many_gone settled' (left_aside ++ aside))
         frames f f' finished_more (omega (arith, even, odd, from)) (omega (arith, l, some, length-append left_aside aside)) (omega (arith, more_even, more_odd))
         (lists_fit mask resumed_levels.apart (subst (λ Z. (v : ℕ) → In (gone settled' (left_aside ++ aside)) v → In Z v) (sym same) resumed_levels.listed_inside))
 
@@ -367,11 +367,11 @@ module _ {g : Graph} {U : VertexSet} {frames : List Frame} {f : Frame} {active :
     pub dropped_levels : AreOpenLevels g U Q settled' left_aside frames (winners_of new) (choices_of new)
     dropped_levels = open_levels_settle finished dropped
 
-    pub dropped_fewer : (mask : List Bool) → members mask ≡ U → (m : ℕ) → steps (size mask - how_many_gone settled' left_aside) + steps_left (size mask) frames
-        < steps (size mask - m) + steps_left (size mask) (frames ++ f ∷ [])
+    pub dropped_fewer : (mask : List Bool) → members mask ≡ U → (m : ℕ) → steps (how_many mask - how_many_gone settled' left_aside) + steps_left (how_many mask) frames
+        < steps (how_many mask - m) + steps_left (how_many mask) (frames ++ f ∷ [])
     dropped_fewer mask same m =
         let more_even = longer finished dropped Even in
         let more_odd = longer finished dropped Odd in
-        work_drop (size mask) m (how_many_gone between left_aside) (how_many_gone settled' left_aside) frames f finished_more
+        work_drop (how_many mask) m (how_many_gone between left_aside) (how_many_gone settled' left_aside) frames f finished_more
         (omega (arith, more_even, more_odd))
         (lists_fit mask dropped_levels.apart (subst (λ Z. (v : ℕ) → In (gone settled' left_aside) v → In Z v) (sym same) dropped_levels.listed_inside))

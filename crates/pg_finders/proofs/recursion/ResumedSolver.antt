@@ -1,17 +1,15 @@
 -- The solver where the last subgame is taken up again: the levels, and the steps that are left.
-use Rattle.pg_finders.proofs.Common.{◌≡◌, ◌≢◌, ℕ, ◌<◌, ◌≤◌, Bool, false, inl, inr, List, [], ◌∷◌, ◌++◌, length, take, drop, refl, sym, ◌∙◌, ap, subst}
+use Rattle.pg_finders.proofs.Common.{◌≡◌, ◌≢◌, ℕ, ◌<◌, ◌≤◌, Bool, inl, inr, List, [], ◌∷◌, ◌++◌, length, take, drop, refl, sym, ◌∙◌, ap, subst}
 use Rattle.pg_finders.proofs.Common.{VertexSet, arith, take-append-drop, Player, Even, Odd, opponent, Graph, In, Within, members, Frame, listed, Once, SettledLists, settled_of}
-use Rattle.pg_finders.proofs.Common.{winners_of, choices_of, size, active_of, AreVertices, IsOrder, count_at, AreOpenLevels, IsSolverState, how_many_gone, work}
+use Rattle.pg_finders.proofs.Common.{winners_of, choices_of, how_many, active_of, AreVertices, IsOrder, count_at, AreOpenLevels, IsAtEnd, IsSolverState, how_many_gone, work}
 use Rattle.std.proofs.Common.{length-take}
 use Rattle.pg_finders.specs.declared.recursion.Solver.{Solver}
 use Rattle.pg_finders.specs.declared.recursion.order.Order.{Order}
-use Rattle.pg_finders.specs.declared.recursion.settled.Settled.{Settled}
-use Rattle.pg_finders.specs.private.recursion.Settled.{IsPlaced}
 use Rattle.pg_finders.specs.private.recursion.Parts.{AreParts}
 use Rattle.pg_finders.specs.private.recursion.Shrunk.{Shrinks, WaitsAgain, WinsBack, KeepsLists, count_again, frame_of}
 use Rattle.pg_finders.proofs.recursion.AttractionSteps.{grown_active}
 use Rattle.pg_finders.proofs.recursion.ListsAsSets.{once_drop}
-use Rattle.pg_finders.proofs.recursion.PlacedLists.{places_once, places_differ}
+use Rattle.pg_finders.proofs.recursion.PlacedLists.{lists_once}
 use Rattle.pg_finders.proofs.recursion.ResumedLevels.{Resumes, between, left_aside, own_length, other_same, resumed_subgame, resumed_levels, resumed_fewer, dropped_levels}
 use Rattle.pg_finders.proofs.recursion.ResumedLevels.{dropped_fewer}
 
@@ -52,13 +50,9 @@ module _ {g : Graph} {U : VertexSet} {f : Frame} {x x1 x2 : Solver} {k : ℕ} (h
       (subst (λ y. take (count_at f f.player) (settled_of y.settled f.player) ≡ take (count_at f f.player) (settled_of x.parts.settled f.player))
       (sym same.parts) h.before) l
 
-placed_once : (n : ℕ) (x : Settled) → IsPlaced n x → (p : Player) → Once (settled_of x p)
-placed_once n x h p = places_once (settled_of x p) (places_differ x.places.items (settled_of x p) (h.table p))
-
 -- what the calls say of the solver x and the solvers after each of them
 pub record IsResumed (g : Graph) (mask : List Bool) (f : Frame) (x x1 x2 x3 : Solver) (k : ℕ) : Type 0 where
-  pub running : IsSolverState g mask x (x.frames.items ++ f ∷ [])
-  pub none : (v : ℕ) → active_of x.parts.subgame v ≡ false
+  pub at_end : IsAtEnd g mask x f
   pub some : length (settled_of x.parts.settled (opponent f.player)) ≢ count_at f (opponent f.player)
   pub shrinks : Shrinks g (members mask) f x x1 k
   pub waits : WaitsAgain f k x1 x2
@@ -82,14 +76,14 @@ module _ {g : Graph} {mask : List Bool} {f : Frame} {x x1 x2 x3 : Solver} {k : �
   wins : WinsBack g p (count_at f p) x1.parts x3.parts
   wins = subst (λ y. WinsBack g p (count_at f p) y x3.parts) waited.parts h.wins
 
-  resumes : Resumes g (members mask) x.frames.items f (active_of x.parts.subgame) (settled x) x.set_aside.items x.parts.subgame.plan h.shrinks.taken
+  resumes : Resumes g (members mask) x1.frames.items f (active_of x.parts.subgame) (settled x) x.set_aside.items x.parts.subgame.plan h.shrinks.taken
       x1.list.items k kept (active_of x1.parts.subgame) x1.parts.subgame.plan wins.more (active_of x3.parts.subgame) (settled x3) x3.parts.subgame.plan
   resumes = record {
-    run = h.running.open_levels;
-    none = h.none;
+    run = rw (← h.shrinks.frames) h.at_end.running.open_levels;
+    none = h.at_end.none;
     some = h.some;
     shrunk = h.shrinks.shrunk;
-    kept_once = once_drop (count_at f p) (settled x1 p) (placed_once (length g) x1.parts.settled h.shrinks.parts.placed p);
+    kept_once = once_drop (count_at f p) (settled x1 p) (lists_once h.shrinks.parts.placed p);
     own = wins.own ∙ ap (λ xs. xs ++ wins.more) (sym (take-append-drop (count_at f p) (settled x1 p)) ∙ ap (λ xs. xs ++ kept) h.shrinks.before);
     other = wins.other ∙ h.shrinks.lost;
     grown = wins.grown;
@@ -118,41 +112,38 @@ module _ {g : Graph} {mask : List Bool} {f : Frame} {x x1 x2 x3 : Solver} {k : �
   aside_is : x1.set_aside.items ++ x1.list.items ≡ left_aside resumes ++ x1.list.items
   aside_is = ap (λ xs. xs ++ x1.list.items) h.shrinks.set_aside
 
-  pub levels_now : AreOpenLevels g (members mask) (active_of x3.parts.subgame) (settled x3) x3.set_aside.items x3.frames.items (winners_of x3.parts.subgame.plan)
-      (choices_of x3.parts.subgame.plan)
-  levels_now = elim h.waits [
+  -- the levels as they are now, of which fewer steps are left
+  now : AreOpenLevels g (members mask) (active_of x3.parts.subgame) (settled x3) x3.set_aside.items x3.frames.items (winners_of x3.parts.subgame.plan)
+      (choices_of x3.parts.subgame.plan) × (work (how_many mask) x3 < work (how_many mask) x)
+  now = elim h.waits [
     | inl a ↦ (
         let aside : x3.set_aside.items ≡ left_aside resumes = ap (λ s. s.items) (h.same.set_aside ∙ ap (λ s. s.set_aside) a.1) ∙ h.shrinks.set_aside in
-        let frames : x3.frames.items ≡ x.frames.items = ap (λ s. s.items) (h.same.frames ∙ ap (λ s. s.frames) a.1) ∙ h.shrinks.frames in
-        rw (aside, frames) (dropped_levels resumes a.0))
+        let frames : x3.frames.items ≡ x1.frames.items = ap (λ s. s.items) (h.same.frames ∙ ap (λ s. s.frames) a.1) in (
+          rw (aside, frames) (dropped_levels resumes a.0),
+          rw (aside, frames, h.shrinks.frames) (dropped_fewer resumes a.0 mask refl (how_many_gone (settled x) x.set_aside.items)),
+        ))
     | inr a ↦ (
         let aside : x3.set_aside.items ≡ left_aside resumes ++ x1.list.items = ap (λ s. s.items) h.same.set_aside ∙ (a.1.set_aside ∙ aside_is) in
-        let frames : x3.frames.items ≡ x.frames.items ++ again ∷ [] = ap (λ s. s.items) h.same.frames ∙ (a.1.frames ∙ ap (λ fs. fs ++ again ∷ []) h.shrinks.frames) in
-        rw (aside, frames) (resumed_levels resumes again refl counts_at from refl (ap length aside_is) (omega (arith, a.0))))
+        let frames : x3.frames.items ≡ x1.frames.items ++ again ∷ [] = ap (λ s. s.items) h.same.frames ∙ a.1.frames in
+        let some : 0 < k = omega (arith, a.0) in (
+          rw (aside, frames) (resumed_levels resumes again refl counts_at from refl (ap length aside_is) some),
+          rw (aside, frames, h.shrinks.frames) (resumed_fewer resumes again refl counts_at from refl (ap length aside_is) some mask refl
+              (how_many_gone (settled x) x.set_aside.items)),
+        ))
   ]
 
-  pub fewer_now : work (size mask) x3 x3.frames.items < work (size mask) x (x.frames.items ++ f ∷ [])
-  fewer_now = elim h.waits [
-    | inl a ↦ (
-        let aside : x3.set_aside.items ≡ left_aside resumes = ap (λ s. s.items) (h.same.set_aside ∙ ap (λ s. s.set_aside) a.1) ∙ h.shrinks.set_aside in
-        let frames : x3.frames.items ≡ x.frames.items = ap (λ s. s.items) (h.same.frames ∙ ap (λ s. s.frames) a.1) ∙ h.shrinks.frames in
-        rw (aside, frames) (dropped_fewer resumes a.0 mask refl (how_many_gone (settled x) x.set_aside.items)))
-    | inr a ↦ (
-        let aside : x3.set_aside.items ≡ left_aside resumes ++ x1.list.items = ap (λ s. s.items) h.same.set_aside ∙ (a.1.set_aside ∙ aside_is) in
-        let frames : x3.frames.items ≡ x.frames.items ++ again ∷ [] = ap (λ s. s.items) h.same.frames ∙ (a.1.frames ∙ ap (λ fs. fs ++ again ∷ []) h.shrinks.frames) in
-        rw (aside, frames) (resumed_fewer resumes again refl counts_at from refl (ap length aside_is) (omega (arith, a.0)) mask refl
-        (how_many_gone (settled x) x.set_aside.items)))
-  ]
+  pub fewer_now : work (how_many mask) x3 < work (how_many mask) x
+  fewer_now = now.1
 
-  pub running_now : (order : Order) → IsOrder g (active_of x3.parts.subgame) order → IsSolverState g mask (record x3 { order = order }) x3.frames.items
+  pub running_now : (order : Order) → IsOrder g (active_of x3.parts.subgame) order → IsSolverState g mask (record x3 { order = order })
   running_now order is = record {
-    inside_length = h.running.inside_length;
-    whole = h.same.size ∙ (waited.size ∙ (h.shrinks.size ∙ h.running.whole));
+    inside_length = h.at_end.running.inside_length;
+    whole = h.same.size ∙ (waited.size ∙ (h.shrinks.size ∙ h.at_end.running.whole));
     sizes = h.parts.sizes;
     subgame = resumed_subgame resumes;
     order = is;
     placed = h.parts.placed;
-    open_levels = levels_now;
+    open_levels = now.0;
   }
 
   -- what the order is filled with

@@ -5,7 +5,7 @@ use Rattle.pg_finders.proofs.Common.{get_or_append_left, get_or_push, length-rep
 use Rattle.pg_finders.proofs.Common.{IsQueue}
 use Rattle.std.specs.Prelude.{slice_index}
 use Rattle.pg_game.proofs.Masks.{members-set}
-use Rattle.pg_finders.proofs.RowsByPlace.{differ}
+use Rattle.std.proofs.lemmas.Bool.{ne_eqb}
 use Rattle.pg_game.proofs.Masks.{none_mask}
 
 -- a member of a mask with one more vertex
@@ -40,7 +40,7 @@ module _ (g : Graph) (U : VertexSet) (top goal : ℕ) where
     not_new x i q = let z : members taken x ≡ false = rw q new in cc (i, z)
 
     old_rank : (x : ℕ) → x ≢ v → ranks x ≡ h.rank x
-    old_rank x n = rw (differ x v n) refl
+    old_rank x n = rw (ne_eqb x v n) refl
 
     new_rank : ranks v ≡ suc (h.rank to)
     new_rank = rw (eq-eqb v v refl) refl

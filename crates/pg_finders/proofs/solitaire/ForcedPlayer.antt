@@ -1,8 +1,8 @@
 -- A subgame where one player has no choice: what the other wins by a closed walk, and that without one all is his who has no choice.
 use Rattle.pg_finders.proofs.Common.{rules, ◌≡◌, ◌≢◌, ℕ, ◌+◌, ◌<◌, ◌≤◌, Bool, true, false, ◌&&◌, ◌||◌, inl, inr, List, [], ◌∷◌, length, refl, sym, ◌∙◌, ap}
-use Rattle.pg_finders.proofs.Common.{subst, arith, fun_ext, Option, Some, None, IfOk, IfSome, IsNone, if◌then◌else◌, ◌==◌, Contains, Player, Even, Odd, same_player}
-use Rattle.pg_finders.proofs.Common.{opponent, of_parity, Graph, HasEdge, owner_of, priority_of, successors_of, VertexSet, In, members, KeptEdge, Walk}
-use Rattle.pg_finders.proofs.Common.{ClosedWalk, greatest_priority, NoneHas, OnlyGoodWalks, some_or_none, good_from_none, same_is, is_same, option_list}
+use Rattle.pg_finders.proofs.Common.{subst, arith, fun_ext, Option, Some, None, IfOk, IfSome, IsNone, ◌==◌, Contains, Player, Even, Odd, same_player}
+use Rattle.pg_finders.proofs.Common.{opponent, of_parity, Graph, HasEdge, owner_of, priority_of, VertexSet, In, members, KeptEdge, Walk}
+use Rattle.pg_finders.proofs.Common.{ClosedWalk, greatest_priority, NoneHas, OnlyGoodWalks, some_or_none, good_from_none, same_is, is_same}
 use Rattle.pg_finders.proofs.Common.{Claim, StrategyGraph, ClaimRows, named, IsGoodIn, IsOnBadCycle, IsSolitaire, WinsOn, own_choices, rows_below, HasOneAt}
 use Rattle.pg_finders.proofs.Common.{IsSingle, IsForcedBelow, Choices, kept, cases_eq, choices_by, EdgeBelow, AreLeading, eqb-true, eq-eqb}
 use Rattle.std.proofs.Common.{eqb}
@@ -12,7 +12,7 @@ use Rattle.std.specs.Prelude.{Result, slice_index, nat_lt}
 use Rattle.std.specs.declared.alloc.AllocError.{AllocError}
 use Rattle.pg_dominion.specs.KeptEdges.{Edge, KeepsNothing, IsKeptWith, kept_choice, ends_at, is_bad}
 use Rattle.pg_dominion.specs.Strategies.{IsStrategy}
-use Rattle.pg_dominion.proofs.Strategies.{none_below, below_next, strategy_none, strategy_next, to_kept, bad_cycle_of_player}
+use Rattle.pg_dominion.proofs.Strategies.{none_below, below_next, strategy_none, strategy_next, ends_kept, to_kept, bad_cycle_of_player}
 use Rattle.pg_finders.specs.Finding.{HasOneSuccessor}
 use Rattle.pg_finders.proofs.Sets.{twice}
 use Rattle.pg_finders.proofs.ClosedWalks.{Among, closed_among, closed_inside, closed_begins, never_falls, greatest_reached}
@@ -71,11 +71,6 @@ module _ (g : Graph) (U : VertexSet) (q : Player) where
   }
 
   module _ (v : ℕ) where
-    fits : (b : Bool) (c : Option ℕ) → same_player (owner_of g v) q ≡ b → (owner_of g v ≡ q → (w : ℕ) × (c ≡ Some w) × IsSingle g U v w)
-        → (owner_of g v ≢ q → c ≡ None) → ends_at g v c ≡ (if same_player (owner_of g v) q then option_list c else successors_of g v)
-    fits true c e own other = let h = own (same_is (owner_of g v) q e) in rw (e, h.1) refl
-    fits false c e own other = rw (e, other (λ o. let t = is_same (owner_of g v) q o in cc (t, e))) refl
-
     pub forced_next : (k k' : StrategyGraph) (b : Bool) (c : Option ℕ) → In U v → b ≡ is_bad g q v → IsKeptWith k v b c k'
         → (owner_of g v ≡ q → (w : ℕ) × (c ≡ Some w) × IsSingle g U v w) → (owner_of g v ≢ q → c ≡ None)
         → IsForcedBelow g U q v k → IsForcedBelow g U q (v + 1) k'
@@ -83,8 +78,8 @@ module _ (g : Graph) (U : VertexSet) (q : Player) where
       game = more.game ∙ h.game;
       strategy = strategy_next (λ x. nat_lt x v && U x) (λ x. q) k k' v b c (λ x. nat_lt x (v + 1) && U x) (kept_choice k) (kept_choice k') more
           (below_in U v i) (λ x n. (more.others x n).choice)
-          (subst (λ (y : Graph). ends_at y v c ≡ kept y q (kept_choice k') v) (sym h.game) (fits (same_player (owner_of g v) q) c refl own other
-          ∙ ap (λ o. if same_player (owner_of g v) q then option_list o else successors_of g v) (sym more.choice_is)))
+          (subst (λ (y : Graph). ends_at y v c ≡ kept y q (kept_choice k') v) (sym h.game)
+          (ends_kept g q (kept_choice k') v c (λ o. let s = own o in (s.0, s.1, more.choice_is ∙ s.1)) other))
           (subst (λ (y : Graph). b ≡ is_bad y q v) (sym h.game) bad) h.strategy;
       single = λ x l j o. elim (cases_eq x v) [
         | inl e ↦ (let s = own (subst (λ (y : ℕ). owner_of g y ≡ q) e o) in rw e (s.0, more.choice_is ∙ s.1, s.2))

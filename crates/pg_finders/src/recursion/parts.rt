@@ -74,8 +74,6 @@ impl Parts {
         ensures parts { OnOk result (AreParts (length game.now) self.new) }
         ensures attracts { OnOk result (AttractsFree game.now player from self.old self.new list.new.items) }
     {
-        // for the proof: so few vertices have places in 32 bits
-        let _n = game.len();
         list.clear();
         self.test_all(game, player, from, vertices, list)?;
         attract_from(self, game, player, list, 0)?;

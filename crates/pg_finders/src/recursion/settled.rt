@@ -72,7 +72,6 @@ impl Settled {
     /// Gives the vertices to the player.
     pub fn add_all(&mut self, player: Player, vertices: &[u32]) -> Result<(), Memory>
         requires placed { (n : ℕ) × IsPlaced n self.old × All (λ v. v < n) vertices.now }
-        requires few { length (settled_of self.old player) + length vertices.now < 2 ^ 32 }
         requires once { Once vertices.now }
         requires fresh { (p : Player) → Apart (settled_of self.old p) vertices.now }
         ensures own { OnOk result (settled_of self.new player ≡ settled_of self.old player ++ vertices.now) }

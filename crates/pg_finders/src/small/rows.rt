@@ -2,10 +2,11 @@
 //! the vertices of which earlier searches have shown that no small claim has one; and whether the rows have a closed walk
 //! that their player loses. All without memory of its own.
 
-ghost use Rattle.std.specs.Prelude.{◌≡◌, ◌≢◌, ℕ, ◌≤◌, ◌<◌, ◌++◌, ◌∷◌, [], length, slice_set, slice_index_or, take, None, IsTrue, IsFalse, ◌+◌, ◌^◌, ◌↔◌, ◌⊎◌};
+ghost use Rattle.std.specs.Prelude.{◌≡◌, ◌≢◌, ℕ, ◌≤◌, ◌<◌, ◌++◌, ◌∷◌, [], length, slice_set, take, None, IsTrue, IsFalse, ◌+◌, ◌^◌, ◌↔◌, ◌⊎◌};
 ghost use Rattle.std.specs.Prelude.{IfSome, IsNone};
-ghost use Rattle.pg_dominion.specs.Claim.{named, choice_in};
-ghost use Rattle.pg_finders.specs.private.small.Partial.{no_row, vertex_in, choice_at, AreFew};
+ghost use Rattle.std.proofs.Props.{props};
+ghost use Rattle.pg_dominion.specs.Claim.{row_at, named, choice_in};
+ghost use Rattle.pg_finders.specs.private.small.Partial.{AreFew};
 ghost use Rattle.pg_finders.specs.private.small.Search.{search_in};
 ghost use Rattle.pg_finders.specs.private.small.Excluded.{IsBetween, NoneHasBetween};
 ghost use Rattle.pg_game.specs.Region.{OnlyGoodWalks};
@@ -60,7 +61,7 @@ impl Chosen {
     /// The vertex at a place.
     pub fn vertex(&self, at: usize) -> u32
         requires { at < length self.now }
-        ensures { result ≡ vertex_in self.now at }
+        ensures { result ≡ (row_at self.now at).0 }
     {
         self.row(at).0
     }
@@ -68,7 +69,7 @@ impl Chosen {
     /// The choice at a place.
     pub fn choice(&self, at: usize) -> Option<u32>
         requires { at < length self.now }
-        ensures { result ≡ choice_at self.now at }
+        ensures { result ≡ (row_at self.now at).1 }
     {
         self.row(at).1
     }
@@ -88,8 +89,8 @@ impl Chosen {
     /// Whether the vertex is before the place.
     pub fn has_before(&self, end: usize, v: u32) -> bool
         requires { end ≤ length self.now }
-        ensures found { IsTrue result → (k : ℕ) × (k < end) × (vertex_in self.now k ≡ v) }
-        ensures none { IsFalse result → (k : ℕ) → k < end → vertex_in self.now k ≢ v }
+        ensures found { IsTrue result → (k : ℕ) × (k < end) × ((row_at self.now k).0 ≡ v) }
+        ensures none { IsFalse result → (k : ℕ) → k < end → (row_at self.now k).0 ≢ v }
     {
         for at in 0..end {
             if self.vertex(at) == v {
@@ -112,7 +113,7 @@ impl Chosen {
     /// Sets the choice at a place.
     pub fn choose(&mut self, at: usize, choice: Option<u32>)
         requires { at < length self.old }
-        ensures { self.new ≡ slice_set self.old at (vertex_in self.old at, choice) }
+        ensures { self.new ≡ slice_set self.old at ((row_at self.old at).0, choice) }
     {
         let v = self.row(at).0;
         // for the proof: the place is one of the array
@@ -131,7 +132,7 @@ impl Chosen {
     /// The vertex and the choice at a place.
     fn row(&self, at: usize) -> (u32, Option<u32>)
         requires { at < length self.now }
-        ensures { result ≡ slice_index_or self.now at no_row }
+        ensures { result ≡ row_at self.now at }
     {
         // for the proof: the place is one of the array
         let _len = self.len;
@@ -213,7 +214,7 @@ pub struct FirstRows<'a> {
     pub chosen: &'a Chosen,
     /// The number of rows.
     pub done: usize,
-    ghost few: { AreFew game.now chosen.now },
+    ghost few: { AreFew game.now chosen.now } by { Prim.hlevel props },
     ghost within: { done ≤ length chosen.now },
 }
 

@@ -1,7 +1,7 @@
 -- The sum of a report's column `settled` is what its workers settled, and the calling thread's entries come after.
 use Rattle.pg_game.specs.declared.player.Player.TheVariants.{Even, Odd}
 use Rattle.pg_workers.proofs.Common.{AreOfCaller, [], ◌∷◌, drop}
-use Rattle.pg_workers.proofs.Common.{rules, ◌≡◌, ℕ, ◌+◌, List, length, sum, take, sym, ap, ◌∙◌, subst, arith, length-append, take-append_seam, Graph}
+use Rattle.pg_workers.proofs.Common.{rules, ◌≡◌, ℕ, ◌+◌, List, length, take, sym, ap, ◌∙◌, subst, arith, length-append, take-append_seam, Graph}
 use Rattle.pg_workers.proofs.Common.{drop-append_seam, IsExactSolution, KnownRows, Journal, state_of, IsLawful, number_settled, IsFull, AreStateRows, BoardRecord}
 use Rattle.pg_workers.proofs.Common.{ReportRow, AddsUp, IsInOrder, IsReport, settled_in, IsLater, HasSettled, IsOutcome}
 use Rattle.pg_board.proofs.OwnEntries.{continued}

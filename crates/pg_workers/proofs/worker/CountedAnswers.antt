@@ -1,5 +1,5 @@
 -- What a row counts of the answers to a worker's claims.
-use Rattle.pg_workers.proofs.Common.{rules, ◌≡◌, ℕ, ◌+◌, ◌^◌, ◌<◌, ◌≤◌, Result, IfOk, arith, common_steps, Refusal, ReportRow, AreCounted, answered, noted}
+use Rattle.pg_workers.proofs.Common.{ℕ, ◌+◌, ◌^◌, ◌<◌, ◌≤◌, Result, IfOk, arith, common_steps, Refusal, ReportRow, AreCounted, noted}
 use Rattle.pg_board.specs.Office.{IsRaised}
 
 -- what a row has settled fits where the share's amount does

@@ -6,12 +6,12 @@ use Rattle.pg_game.specs.Player.{opponent}
 use Rattle.pg_game.specs.Graph.{Graph}
 use Rattle.pg_game.specs.VertexSet.{In}
 use Rattle.pg_text.specs.Known.{KnownRows, known_of, known_choice}
-use Rattle.pg_finders.specs.Claims.{own_choices}
+use Rattle.pg_dominion.specs.KeptEdges.{own_choices}
 use Rattle.pg_board.specs.declared.journal.Refusal.{Refusal}
 use Rattle.pg_board.specs.declared.journal.Refusal.TheVariants as refusal
 use Rattle.pg_board.specs.BoardRecord.{BoardRecord}
 use Rattle.pg_board.specs.State.{State, settled}
-use Rattle.pg_board.specs.Journal.{Journal, state_of, number_settled}
+use Rattle.pg_board.specs.Journal.{Journal, state_of, number_settled, IsLawful}
 use Rattle.pg_workers.specs.declared.report.ReportRow.{ReportRow}
 use Rattle.pg_workers.specs.Report.{settled_in}
 use Rattle.pg_board.specs.Finish.{AreOfCaller, IsLater}
@@ -30,10 +30,10 @@ pub record SettlesKnown (old new : BoardRecord) (known : KnownRows) (p : Player)
   pub size : HasCount (IsAttractedToKnown old.graph known p) more
   pub number : number_settled new.journal ≡ number_settled old.journal + more
 
--- the possible faults of a post of the player's known set
+-- the possible faults of a post of the player's known set, on a board with this lawful journal
 abbrev pub IsKnownFault : Graph → Journal → KnownRows → Player → SolveFault → Type 0
 IsKnownFault g journal known p fault.Memory = Unit {0}
-IsKnownFault g journal known p (fault.Known q e) = (q ≡ p) × IsRefusedKnown g journal known p e
+IsKnownFault g journal known p (fault.Known q e) = (q ≡ p) × IsLawful g journal × IsRefusedKnown g journal known p e
 
 -- memory is never wrapped
 abbrev pub fault_of : Player → Refusal → SolveFault

@@ -44,7 +44,7 @@ entry_rows : (g : Graph) → IsGame g → (journal : Journal) → IsLawful g jou
     → AllByRecursion (AreVertices (length g)) e.rows
 entry_rows g game journal lawful k e is =
     let good = lawful.good k e is in let answer = lawful.answered k e is in
-    let first = right_rows g game e.player (claimed_rows e) good.shape.right.each in
+    let first = right_rows g game e.player (claimed_rows e) good.sound.shape.right.each in
     let second = led_rows g game e.player (union (settled (state_of (take k journal)) e.player) (named (claimed_rows e))) (attracted_rows e) []
     (attracted_rows e) refl answer.turns in
     subst (λ (rows : ClaimRows). AllByRecursion (AreVertices (length g)) rows) (take-append-drop e.claimed e.rows)

@@ -2,7 +2,8 @@ use Rattle.pg_dominion.proofs.Common.{refl, arith, rules}
 use Rattle.std.proofs.Math.Bool.{or_assoc}
 use Rattle.std.proofs.Math.Seq.{drop-cons}
 use Rattle.pg_dominion.proofs.Shape.{right_before_none, right_before_next, wrong_next, all_right}
-use Rattle.pg_dominion.proofs.claim.names_bad_vertex.Goals.{then-row-least-via-then-row-least, then-row-least-via-else-row-least+then-not-is_right_row}
+use Rattle.pg_dominion.proofs.claim.names_bad_vertex.Goals.{then-row-least-via-then-row-least, then-row-least-via-else-row-least+then-row-n}
+use Rattle.pg_dominion.proofs.claim.names_bad_vertex.Goals.{then-row-least-via-else-row-least+else-row-n+then-not-is_right_row}
 use Rattle.pg_dominion.proofs.claim.names_bad_vertex.Goals as goal
 
 pub returns-then-row-least-clause-fault : goal.returns-then-row-least-clause-fault
@@ -12,7 +13,8 @@ returns-then-row-least-clause-fault c =
     (wrong_next c.args.game.now c.args.claim.now.player c.as_slice-rows.result.now q.row-index q.least q.invariant.checked c.rows-test.true
     (λ right up. elim c.then-row-least.branch [
       | then-row-least-via-then-row-least w ↦ omega (arith, up, w.if-row-least.true)
-      | then-row-least-via-else-row-least+then-not-is_right_row w ↦ (let t = w.is_right_row.ensures.1 right in search rules)
+      | then-row-least-via-else-row-least+then-row-n w ↦ absurd (omega (arith, w.if-row-n.true, right.vertex))
+      | then-row-least-via-else-row-least+else-row-n+then-not-is_right_row w ↦ (let t = w.is_right_row.ensures.1 right in search rules)
     ]))
 
 pub rows-init : goal.rows-init

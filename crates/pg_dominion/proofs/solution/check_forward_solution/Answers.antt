@@ -1,4 +1,4 @@
-use Rattle.pg_dominion.proofs.Common.{◌≡◌, ◌↔◌, ℕ, length, sym, ◌∙◌, ap, subst, StrategyGraph, ltb-true, Graph, NoneHas, IsLeast, edge_inside, Leaves, IsOnBadCycle}
+use Rattle.pg_dominion.proofs.Common.{◌≡◌, ◌↔◌, ℕ, length, sym, ◌∙◌, ap, subst, StrategyGraph, ltb-true, Graph, IsGame, NoneHas, IsLeast, edge_inside, Leaves, IsOnBadCycle}
 use Rattle.pg_text.specs.Verdict.{IsFirstLeaving}
 use Rattle.pg_text.proofs.Verdict.{solution_from_no_fault}
 use Rattle.pg_text.specs.Solution.{SolutionRows}
@@ -37,7 +37,8 @@ returns-clause-holds c =
     let none : NoneHas (IsOnBadCycle c.in_ok-kept.kept) = rw c.in_default-2.is at c.in_ok-v.ensures in
     let same = bad_as_in_game c.in_ok-kept.kept g rows c.requires c.in_ok-kept.ensures.game c.in_ok-kept.ensures.joint
     c.in_default-first_leaving.ensures.first in
-    solution_from_no_fault g rows c.requires (λ v w l e. ltb-true w (length g) (edge_inside g c.len-n.ensures.game v w l e))
+    let game = subst (λ (x : Graph). IsGame x) c.in_ok-kept.ensures.game c.in_ok-kept.kept.shape.game in
+    solution_from_no_fault g rows c.requires (λ v w l e. ltb-true w (length g) (edge_inside g game v w l e))
     c.in_default.ensures c.in_default-first_bad_choice.ensures leaves (λ v b. none v ((same v).1 b))
 
 pub returns-in-Some-clause-fails : goal.returns-in-Some-clause-fails

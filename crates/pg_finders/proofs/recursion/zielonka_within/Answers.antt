@@ -1,5 +1,5 @@
 use Rattle.pg_finders.proofs.Common.{◌≡◌, ◌∙◌, ◌+◌, ◌-◌, ◌≤◌, ◌<◌, ℕ, Option, None, Some, In, ap, subst, refl, members, IfOk, IsNone, VertexSet, List, Bool, sym, AreFewer, false}
-use Rattle.pg_finders.proofs.Common.{size, steps, arith, Frame}
+use Rattle.pg_finders.proofs.Common.{how_many, steps, arith}
 use Rattle.std.specs.Option.{IsSome}
 use Rattle.std.proofs.lemmas.Result.{IfOk-weaker}
 use Rattle.pg_finders.specs.Steps.{work, gone_from}
@@ -16,8 +16,8 @@ returns-clause-no_steps c =
     (ap members (c.in_ok-solver.ensures.active ∙ c.view-view.ensures.mask)) c.solve.ensures.no_steps
 
 -- a solver has work left
-work_some : (n : ℕ) (x : Solver) (frames : List Frame) → 0 < work n x frames
-work_some n x frames = let h = steps_grow 0 (n - gone_from x) (omega arith) in omega (arith, h)
+work_some : (n : ℕ) (x : Solver) → 0 < work n x
+work_some n x = let h = steps_grow 0 (n - gone_from x) (omega arith) in omega (arith, h)
 
 -- so one that began with at most as many steps as it was given does not give up
 found_some : (found : Option Solved) (limit : Option ℕ) (after before bound k : ℕ) → 0 < after → before ≤ bound
@@ -31,9 +31,9 @@ pub returns-clause-enough : goal.returns-clause-enough
 returns-clause-enough c =
     let new = c.solve.new.self in
     let mask = c.view-view.result.mask.now in
-    subst (λ (m : List Bool). IfOk c.solve.result (λ found. (k : ℕ) → c.args.limit ≡ Some k → steps (size m) ≤ k → IsSome found)) c.view-view.ensures.mask
+    subst (λ (m : List Bool). IfOk c.solve.result (λ found. (k : ℕ) → c.args.limit ≡ Some k → steps (how_many m) ≤ k → IsSome found)) c.view-view.ensures.mask
     (IfOk-weaker c.solve.result _ _ (λ found stopped k is enough.
-    found_some found c.args.limit _ _ _ k (work_some (size mask) new new.frames.items) c.in_ok-solver.ensures.work (λ n. (stopped n).spent) is enough)
+    found_some found c.args.limit _ _ _ k (work_some (how_many mask) new) c.in_ok-solver.ensures.work (λ n. (stopped n).spent) is enough)
     c.solve.ensures.stopped)
 
 pub returns-clause-nothing : goal.returns-clause-nothing

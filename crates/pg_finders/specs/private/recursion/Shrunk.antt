@@ -98,7 +98,7 @@ pub record Shrinks (g : Graph) (U : VertexSet) (f : Frame) (x x' : Solver) (k : 
   pub opened_once : Once x'.opened.items
   pub opened_all : Within (active_of x'.parts.subgame) (listed x'.opened.items)
   pub set_aside : x'.set_aside.items ≡ take f.set_aside x.set_aside.items
-  pub frames : x'.frames.items ≡ x.frames.items
+  pub frames : x.frames.items ≡ x'.frames.items ++ f ∷ []
   pub order : x'.order ≡ x.order
   pub size : x'.size ≡ x.size
 

@@ -1,7 +1,7 @@
 -- A few rows in an array.
 use Rattle.std.specs.Prelude.{ℕ, ◌≡◌, ◌≤◌, ◌<◌, ◌%◌, List, length, slice_index_or, Option}
 use Rattle.std.specs.Int.{bit_at}
-use Rattle.pg_finders.specs.private.small.Partial.{vertex_in}
+use Rattle.pg_dominion.specs.Claim.{row_at}
 
 -- the first of eight, up to this number
 pub record IsFew (rows : List (ℕ × Option ℕ)) (len : ℕ) : Type 0 where
@@ -11,4 +11,4 @@ pub record IsFew (rows : List (ℕ × Option ℕ)) (len : ℕ) : Type 0 where
 -- the word at each place has the bits of the vertices before it
 pub record HaveBits (rows : List (ℕ × Option ℕ)) (len : ℕ) (words : List ℕ) : Type 0 where
   pub size : length words ≡ 9
-  pub each : (j k : ℕ) → j < k → k ≤ len → bit_at (slice_index_or words k 0) (vertex_in rows j % 64) ≡ 1
+  pub each : (j k : ℕ) → j < k → k ≤ len → bit_at (slice_index_or words k 0) ((row_at rows j).0 % 64) ≡ 1

@@ -1,30 +1,17 @@
 -- An unfinished claim: its first rows are decided, the others wait.
-use Rattle.std.specs.Prelude.{ℕ, ◌≡◌, ◌≢◌, ◌≤◌, ◌<◌, length, take, slice_index_or, Option, Some, None}
+use Rattle.std.specs.Prelude.{ℕ, ◌≡◌, ◌≢◌, ◌≤◌, ◌<◌, length, take, Some, None, nat_eq}
+use Rattle.std.specs.List.{IsDistinct}
 use Rattle.pg_game.specs.Graph.{Graph, HasEdge, owner_of}
 use Rattle.pg_game.specs.VertexSet.{In, Within}
 use Rattle.pg_game.specs.Region.{OnlyGoodWalks}
-use Rattle.pg_dominion.specs.Claim.{ClaimRows, named, choice_in}
+use Rattle.pg_dominion.specs.Claim.{ClaimRows, vertices, row_at, named, choice_in}
 use Rattle.pg_finders.specs.private.small.Search.{Search, IsSmallClaim}
-
--- the row at a place without one
-abbrev pub no_row : ℕ × Option ℕ
-no_row = (0, None)
-
-abbrev pub vertex_in : ClaimRows → ℕ → ℕ
-vertex_in rows at = (slice_index_or rows at no_row).0
-
-abbrev pub choice_at : ClaimRows → ℕ → Option ℕ
-choice_at rows at = (slice_index_or rows at no_row).1
-
--- no vertex is at two places
-abbrev pub AreDifferent : ClaimRows → Type 0
-AreDifferent rows = (j k : ℕ) → j < k → k < length rows → vertex_in rows j ≢ vertex_in rows k
 
 -- at most eight different vertices of the game
 pub record AreFew (g : Graph) (rows : ClaimRows) : Type 0 where
   pub few : length rows ≤ 8
-  pub below : (k : ℕ) → k < length rows → vertex_in rows k < length g
-  pub different : AreDifferent rows
+  pub below : (k : ℕ) → k < length rows → (row_at rows k).0 < length g
+  pub different : IsDistinct nat_eq (vertices rows)
 
 -- different vertices of the subgame, within the bound; a choice only at the player's
 pub record AreDifferentRows (s : Search) (rows : ClaimRows) : Type 0 where

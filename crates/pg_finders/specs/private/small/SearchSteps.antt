@@ -2,11 +2,11 @@
 use Rattle.std.specs.Prelude.{ℕ, ◌≡◌, ◌<◌, ◌+◌, false, length, Some}
 use Rattle.pg_game.specs.Graph.{HasEdge, owner_of}
 use Rattle.pg_game.specs.VertexSet.{In, Within}
-use Rattle.pg_dominion.specs.Claim.{ClaimRows, named, choice_in}
+use Rattle.pg_dominion.specs.Claim.{ClaimRows, row_at, named, choice_in}
 use Rattle.pg_finders.specs.declared.small.Step.{Step}
 use Rattle.pg_finders.specs.declared.small.Step.TheVariants.{Found, Nothing, GaveUp}
 use Rattle.pg_finders.specs.private.small.Search.{Search, IsSmallClaim}
-use Rattle.pg_finders.specs.private.small.Partial.{vertex_in, IsPartial, ExtendsChoices}
+use Rattle.pg_finders.specs.private.small.Partial.{IsPartial, ExtendsChoices}
 
 abbrev pub IfFound : Step → Type 0 → Type 0
 IfFound Found P = P
@@ -25,7 +25,7 @@ IfGaveUp GaveUp P = P
 
 -- at the row of this place the player chooses
 abbrev pub Chooses : Search → ClaimRows → ℕ → Type 0
-Chooses s rows at = (at < length rows) × (owner_of s.graph (vertex_in rows at) ≡ s.player)
+Chooses s rows at = (at < length rows) × (owner_of s.graph (row_at rows at).0 ≡ s.player)
 
 -- one more row is decided, and all vertices are still there
 pub record IsNextPartial (s : Search) (rows : ClaimRows) (at : ℕ) (next : ClaimRows) : Type 0 where
@@ -38,12 +38,12 @@ StillAgrees s rows at next = (claim : ClaimRows) → IsSmallClaim s claim → Ex
 
 -- the same, where it chooses w at the row
 abbrev pub StillAgreesAt : Search → ClaimRows → ℕ → ℕ → ClaimRows → Type 0
-StillAgreesAt s rows at w next = (claim : ClaimRows) → IsSmallClaim s claim → choice_in claim (vertex_in rows at) ≡ Some w
+StillAgreesAt s rows at w next = (claim : ClaimRows) → IsSmallClaim s claim → choice_in claim (row_at rows at).0 ≡ Some w
     → ExtendsChoices s claim rows at → ExtendsChoices s claim next (at + 1)
 
 -- no claim that the search looks for agrees with the rows and chooses w at the row
 abbrev pub NoneAgreesAt : Search → ClaimRows → ℕ → ℕ → Type 0
-NoneAgreesAt s rows at w = (claim : ClaimRows) → IsSmallClaim s claim → choice_in claim (vertex_in rows at) ≡ Some w
+NoneAgreesAt s rows at w = (claim : ClaimRows) → IsSmallClaim s claim → choice_in claim (row_at rows at).0 ≡ Some w
     → ExtendsChoices s claim rows at → ⊥
 
 -- the rows are full, and w is not among them

@@ -5,12 +5,11 @@ use Rattle.pg_game.specs.Graph.{Graph, priority_of}
 use Rattle.pg_game.specs.VertexSet.{In, members}
 use Rattle.pg_game.specs.Kept.{kept, KeptEdge}
 use Rattle.pg_game.specs.Walk.{Walk}
-use Rattle.pg_dominion.specs.Claim.{ClaimRows, named, choice_in}
-use Rattle.pg_finders.specs.private.small.Partial.{vertex_in}
+use Rattle.pg_dominion.specs.Claim.{ClaimRows, row_at, named, choice_in}
 
 -- a kept edge leads from one row's vertex to another's
 abbrev pub RowLeadsTo : Graph → Player → ClaimRows → ℕ → ℕ → Type 0
-RowLeadsTo g p rows from to = Contains (kept g p (choice_in rows) (vertex_in rows from)) (vertex_in rows to)
+RowLeadsTo g p rows from to = Contains (kept g p (choice_in rows) (row_at rows from).0) (row_at rows to).0
 
 -- a kept edge between vertices of the first rows, to one of at most this priority
 abbrev pub Under : Graph → Player → ClaimRows → ℕ → ℕ → ℕ → ℕ → Type 0
@@ -19,7 +18,7 @@ Under g p rows done top v w = KeptEdge g p (named (take done rows)) (choice_in r
 -- a walk over such edges, from the row's vertex back to it, where the priority is its own
 abbrev pub WalksBack : Graph → Player → ClaimRows → ℕ → ℕ → Type 0
 WalksBack g p rows done start =
-    (ws : List ℕ) × Walk (Under g p rows done (priority_of g (vertex_in rows start))) (vertex_in rows start) ws (vertex_in rows start)
+    (ws : List ℕ) × Walk (Under g p rows done (priority_of g (row_at rows start).0)) (row_at rows start).0 ws (row_at rows start).0
 
 -- the row is the start, or was reached before
 abbrev pub IsFrom : ℕ → List Bool → ℕ → Type 0
@@ -32,4 +31,4 @@ IsReachedNext g p rows done start left to = (from : ℕ) × (from < done) × IsF
 -- the row was not reached before, is low enough, and such a row leads to it
 abbrev pub IsReached : Graph → Player → ClaimRows → ℕ → ℕ → List Bool → ℕ → Type 0
 IsReached g p rows done start left to =
-    (to < done) × In (members left) to × (priority_of g (vertex_in rows to) ≤ priority_of g (vertex_in rows start)) × IsReachedNext g p rows done start left to
+    (to < done) × In (members left) to × (priority_of g (row_at rows to).0 ≤ priority_of g (row_at rows start).0) × IsReachedNext g p rows done start left to

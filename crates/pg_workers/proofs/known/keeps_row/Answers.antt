@@ -1,4 +1,4 @@
-use Rattle.pg_workers.proofs.Common.{◌≡◌, ◌∙◌, true, false, sym, ap, refl, Some, KnownRows, state_of}
+use Rattle.pg_workers.proofs.Common.{◌≡◌, ◌∙◌, true, false, sym, ap, refl, Some, state_of}
 use Rattle.std.specs.Prelude.{None, if◌then◌else◌}
 use Rattle.pg_game.specs.Player.{same_player}
 use Rattle.pg_game.specs.Graph.{Graph, owner_of}
@@ -10,14 +10,14 @@ use Rattle.pg_workers.proofs.known.keeps_row.Goals as goal
 pub returns-in-None : goal.returns-in-None
 returns-in-None c =
     let g = c.args.of.now.game.now in let known = c.args.of.now.known.now.rows in let v = c.args.v in let st = state_of c.args.board.now.journal in
-    let is : known_at known v ≡ None = sym (ap (λ (rows : KnownRows). known_at rows v) c.as_slice.ensures) ∙ c.in-None.is in
+    let is : known_at known v ≡ None = sym c.known_at.ensures ∙ c.in-None.is in
     (λ _. row_unknown g known st v is, λ _. refl)
 
 pub returns-then-eq : goal.returns-then-eq
 returns-then-eq c =
     let g = c.args.of.now.game.now in let known = c.args.of.now.known.now.rows in let v = c.args.v in let st = state_of c.args.board.now.journal in
     let row = c.in-Some.row in
-    let is : known_at known v ≡ Some row = sym (ap (λ (rows : KnownRows). known_at rows v) c.as_slice.ensures) ∙ c.in-Some.is in
+    let is : known_at known v ≡ Some row = sym c.known_at.ensures ∙ c.in-Some.is in
     let won : winner_in (st v) ≡ Some row.0 =
     sym c.winner.ensures ∙ same_winner c.winner.result row.0 (sym c.eq.ensures ∙ c.if-eq.true) in
     let test = c.eq-then-eq.ensures in let own = c.own_choice-own in let choice = c.choice in
@@ -32,7 +32,7 @@ pub returns-else-eq : goal.returns-else-eq
 returns-else-eq c =
     let g = c.args.of.now.game.now in let known = c.args.of.now.known.now.rows in let v = c.args.v in let st = state_of c.args.board.now.journal in
     let row = c.in-Some.row in
-    let is : known_at known v ≡ Some row = sym (ap (λ (rows : KnownRows). known_at rows v) c.as_slice.ensures) ∙ c.in-Some.is in
+    let is : known_at known v ≡ Some row = sym c.known_at.ensures ∙ c.in-Some.is in
     let other = c.if-eq.false in (
       λ same. absurd (let h : true ≡ false = sym same ∙ other in cc h),
       λ keeps. c.eq.ensures ∙ winner_same c.winner.result row.0 (c.winner.ensures ∙ (kept_row g known st v row is keeps).0),

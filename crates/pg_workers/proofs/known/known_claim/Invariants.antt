@@ -3,4 +3,4 @@ use Rattle.pg_workers.proofs.known.known_claim.Given as goal
 
 -- the rows of the vertices seen so far
 abbrev pub invariant-loop-v : goal.invariant-loop-v
-invariant-loop-v l = l.rows.items ≡ rows_below (known_of l.of.known.now.rows l.player) (own_choices l.of.game.now l.player (known_choice l.of.known.now.rows)) l.v
+invariant-loop-v l = l.rows.items ≡ rows_below (known_of l.known.rows l.player) (own_choices l.game l.player (known_choice l.known.rows)) l.v

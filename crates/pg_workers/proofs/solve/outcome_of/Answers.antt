@@ -1,4 +1,4 @@
-use Rattle.pg_workers.proofs.Common.{rules, ◌≡◌, IsExactSolution, state_of, AreStateRows}
+use Rattle.pg_workers.proofs.Common.{IsExactSolution, state_of, AreStateRows}
 use Rattle.pg_workers.proofs.solve.SettledSum.{is_outcome}
 use Rattle.pg_workers.proofs.KeptState.{is_done}
 use Rattle.pg_workers.proofs.solve.outcome_of.Goals as goal

@@ -1,4 +1,4 @@
-use Rattle.pg_workers.proofs.Common.{◌≡◌, ◌∙◌, ℕ, ◌+◌, length, sym, ap, subst, arith, rules, Graph, KnownRows, HasSettled, IsInOrder, IsOutcome, ReportRow, List, number_settled, settled_in, total_of}
+use Rattle.pg_workers.proofs.Common.{◌≡◌, ◌∙◌, ℕ, ◌+◌, length, sym, ap, subst, rules, Graph, KnownRows, HasSettled, IsInOrder, IsOutcome, number_settled, settled_in, total_of}
 use Rattle.pg_workers.proofs.Common.{state_of}
 use Rattle.pg_workers.specs.KnownRegions.{KeepsKnown}
 use Rattle.pg_workers.specs.declared.solve.Outcome.{Outcome}

@@ -27,6 +27,7 @@ returns c =
     (record {
       graph = c.of_subgame.ensures.graph;
       mask = λ v. sym (ap (λ (U : VertexSet). U v) same);
+      part = c.of_subgame.ensures.part;
       entries = entries;
       number = search (rules, c.self.view_is);
       dominions = λ p rows good. subst (λ (n : ℕ). IsDominionAfter g b.entries.items n p rows) (sym entries)

@@ -13,5 +13,5 @@ returns-then-is_empty-clause-settles c =
 pub returns-clause-settles : goal.returns-clause-settles
 returns-clause-settles c =
     let some : 0 < length c.args.claim.now.rows = search rules in
-    let d = c.requires some in
+    let d = c.requires.dominion some in
     c.post_own.ensures.settles d.0 d.1

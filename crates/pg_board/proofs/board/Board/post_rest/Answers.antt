@@ -1,9 +1,9 @@
 use Rattle.pg_board.proofs.Common.{refl, rules, length, subst, ap, ◌∙◌, ◌≡◌, IsLawful, BoardRecord}
 use Rattle.std.specs.Prelude.{IsSome}
-use Rattle.pg_finders.specs.Steps.{size}
+use Rattle.pg_game.specs.VertexSet.{how_many}
 use Rattle.pg_board.specs.Finish.{number_unsettled}
 use Rattle.pg_board.proofs.OwnEntries.{none_later, shared_out}
-use Rattle.pg_board.proofs.UnsettledNumber.{size_unsettled, gives_up_before, may_give_up}
+use Rattle.pg_board.proofs.UnsettledNumber.{how_many-unsettled, gives_up_before, may_give_up}
 use Rattle.pg_board.proofs.board.Board.post_rest.Goals as goal
 
 pub returns-then-is_full-clause-later : goal.returns-then-is_full-clause-later
@@ -26,8 +26,8 @@ pub returns-in_default-clause-limited : goal.returns-in_default-clause-limited
 returns-in_default-clause-limited c = λ gave_up.
     let inside = c.in_ok-copied.copied.inside in
     let lawful = subst (λ (b : BoardRecord). IsLawful b.graph b.journal) c.self.view_is c.self.invariant.lawful in
-    let sized : length inside.mask ≡ length c.args.self.now.graph = c.game-game.ensures.part.size ∙ ap length c.in_ok-copied.ensures.graph in
-    let few = size_unsettled c.args.self.now inside.mask lawful sized c.in_ok-copied.ensures.mask in
+    let sized : length inside.mask ≡ length c.args.self.now.graph = c.in_ok-copied.ensures.part.size ∙ ap length c.in_ok-copied.ensures.graph in
+    let few = how_many-unsettled c.args.self.now inside.mask lawful sized c.in_ok-copied.ensures.mask in
     let none : IsSome c.in_ok-solved.field-0 → ⊥ = search rules in
-    gives_up_before c.args.limit (size inside.mask) (number_unsettled c.args.self.now) few
-    (may_give_up c.args.limit (size inside.mask) (IsSome c.in_ok-solved.field-0) none c.in_ok-solved.ensures.unlimited c.in_ok-solved.ensures.enough)
+    gives_up_before c.args.limit (how_many inside.mask) (number_unsettled c.args.self.now) few
+    (may_give_up c.args.limit (how_many inside.mask) (IsSome c.in_ok-solved.field-0) none c.in_ok-solved.ensures.unlimited c.in_ok-solved.ensures.enough)

@@ -3,13 +3,13 @@ use Rattle.std.proofs.lemmas.Result.{on_ok_weaker}
 use Rattle.pg_board.proofs.OwnEntries.{even_due, odd_due, all_settled, both_later, none_later}
 use Rattle.pg_board.proofs.board.Board.post_solved.Goals as goal
 
-pub post_part-requires : goal.post_part-requires
-post_part-requires c =
+pub post_part-requires-clause-dominion : goal.post_part-requires-clause-dominion
+post_part-requires-clause-dominion c =
     let old = c.args.self.now in let solved = c.args.solved.now in let game = c.game-game.ensures.board in
     even_due old.graph old.journal game.game game.lawful solved.even solved.odd c.requires
 
-pub post_part-requires-2 : goal.post_part-requires-2
-post_part-requires-2 c =
+pub post_part-requires-2-clause-dominion : goal.post_part-requires-2-clause-dominion
+post_part-requires-2-clause-dominion c =
     let old = c.args.self.now in let mid = c.post_part.new.self in let solved = c.args.solved.now in let game = c.game-game.ensures.board in
     let first = c.in_ok-post_part.ensures.later in
     subst (λ (g : Graph). 0 < length solved.odd.rows → (k : ℕ) × IsDominionAfter g mid.journal k solved.odd.player solved.odd.rows) (sym first.graph)

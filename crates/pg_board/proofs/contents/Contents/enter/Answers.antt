@@ -1,7 +1,6 @@
-use Rattle.pg_board.proofs.Common.{◌≡◌, ◌+◌, [], ◌∷◌, ◌++◌, length, refl, sym, ap, subst, arith, rules, IsDistinct, ClaimRows, Entry}
+use Rattle.pg_board.proofs.Common.{◌≡◌, ◌+◌, [], ◌∷◌, ◌++◌, length, refl, sym, ap, subst, arith, rules, IsDistinct, ClaimRows, Entry, vertices}
 use Rattle.pg_board.proofs.Common.{Journal, IsBoard, ◌∙◌}
 use Rattle.std.specs.Prelude.{nat_eq}
-use Rattle.pg_board.proofs.RestIsGood.{vertices}
 use Rattle.pg_board.proofs.contents.EntryOfRest.{IsEntering, HasGrown, HasRows, open_subgame, rest_distinct, rest_within, entry_answers, grown_fits, board_entered}
 use Rattle.pg_board.proofs.contents.EntryOfRest.{has_grown, HasWritten-more, few, none_left}
 use Rattle.pg_board.proofs.contents.Contents.enter.Goals.{After-len-claimed, After-len-settled, After-push_reserved}

@@ -1,11 +1,10 @@
-use Rattle.pg_board.proofs.Common.{rules, ℕ, inl, inr, sym, subst, union, named, settled, table_state, EndsOutside}
+use Rattle.pg_board.proofs.Common.{rules, ℕ, inl, inr, sym, subst, union, named, settled, table_state, EndsOutside, row_at}
 use Rattle.pg_game.proofs.Rows.{below_or_last}
-use Rattle.pg_board.proofs.Places.{row_at}
 use Rattle.pg_board.proofs.regions.KeptEdgesOfRows.{none_outside, first_outside}
 use Rattle.pg_board.proofs.regions.Bounds.first_edge.Goals as goal
 
 pub returns-in-Some : goal.returns-in-Some
-returns-in-Some c = search (rules, first_outside, c.requires, c.rows-test.true, c.rows.invariant, c.in-Some.ensures.ends, c.in-Some.ensures.least)
+returns-in-Some c = search (rules, first_outside, c.requires, c.rows-test.true, c.rows.invariant, c.in-Some.ensures)
 
 pub rows-preserved : goal.rows-preserved
 rows-preserved c = λ k w l.

@@ -1,6 +1,5 @@
 use Rattle.std.proofs.Common.{rules}
-use Rattle.pg_board.proofs.Common.{◌≡◌, true, sym, ◌∙◌, settled, table_state}
-use Rattle.pg_board.proofs.Places.{row_at}
+use Rattle.pg_board.proofs.Common.{◌≡◌, true, sym, ◌∙◌, settled, table_state, row_at}
 use Rattle.pg_board.proofs.regions.FirstLost.{none_lost, least_lost}
 use Rattle.pg_board.proofs.regions.Regions.first_lost.Goals as goal
 

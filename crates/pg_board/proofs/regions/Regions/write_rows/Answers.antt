@@ -1,6 +1,5 @@
 use Rattle.pg_board.proofs.Common.{rules, ◌≡◌, ◌+◌, ◌++◌, ◌∷◌, [], length, take, None, sym, ◌∙◌, ap, subst, arith, take_more, take_all, member_below, ClaimRows}
-use Rattle.pg_board.proofs.Common.{table_state, state_with, open_before, HasWritten}
-use Rattle.pg_board.proofs.Places.{row_at}
+use Rattle.pg_board.proofs.Common.{table_state, state_with, open_before, HasWritten, row_at}
 use Rattle.pg_board.proofs.regions.Tables.{Settles, state_with-none}
 use Rattle.pg_board.proofs.regions.WrittenRowSteps.{Takes, row_open, before_none, HasWritten-take, same-take, written-take}
 use Rattle.pg_board.proofs.contents.EntryOfRest.{HasWritten-start}

@@ -1,5 +1,4 @@
-use Rattle.pg_finders.proofs.Common.{length, size, arith}
-use Rattle.pg_finders.proofs.Sizes.{size_below}
+use Rattle.pg_finders.proofs.Common.{length, how_many, arith, count_by-le-length}
 use Rattle.pg_finders.proofs.recursion.WaitingLevels.{steps_grow}
 use Rattle.pg_finders.proofs.recursion.Recursion.begin.Goals as goal
 
@@ -11,5 +10,5 @@ invariant_of-view c = rw c.deref.ensures record {
 
 pub returns-clause-remaining : goal.returns-clause-remaining
 returns-clause-remaining c =
-    let h = steps_grow (size c.args.mask) (length c.args.mask) (size_below c.args.mask) in
+    let h = steps_grow (how_many c.args.mask) (length c.args.mask) (count_by-le-length (λ b. b) c.args.mask) in
     omega (arith, h, c.in_ok-solver.ensures.work)

@@ -1,8 +1,7 @@
-use Rattle.pg_finders.proofs.Common.{◌≡◌, ◌<◌, ◌≤◌, ◌∙◌, ℕ, Option, None, Some, Graph, VertexSet, In, length, take, vec_len, arith, refl, sym, ap, on_ok_weaker}
+use Rattle.pg_finders.proofs.Common.{◌≡◌, ◌<◌, ◌≤◌, ◌∙◌, ℕ, Option, None, Some, Graph, VertexSet, In, length, take, vec_len, arith, refl, sym, ap, on_ok_weaker, member_below}
 use Rattle.std.specs.Option.{IsSome}
 use Rattle.pg_finders.specs.declared.recursion.Solver.{Solver}
 use Rattle.pg_finders.specs.private.Solved.{IsTop}
-use Rattle.pg_finders.proofs.Masks.{inside_mask}
 use Rattle.pg_finders.proofs.Sets.{no_both}
 use Rattle.pg_finders.proofs.recursion.ActivePart.{BeginsPart, begins_length, order_fewer, entered, entered_fewer}
 use Rattle.pg_finders.proofs.recursion.Solver.enter.Goals as goal
@@ -15,7 +14,7 @@ top_some g U n (Some d) t v i l = refl
 pub unwrap-top-requires : goal.unwrap-top-requires
 unwrap-top-requires c =
     let s = c.requires.some in
-    let l = inside_mask c.args.self.now.parts.subgame.active s.0 s.1 in
+    let l = member_below c.args.self.now.parts.subgame.active s.0 s.1 in
     top_some _ _ _ c.top.result c.top.ensures.top s.0 s.1 (omega (arith, l, c.requires.running.sizes.active))
 
 pub wait-requires : goal.wait-requires

@@ -1,23 +1,23 @@
 use Rattle.pg_finders.proofs.Common.{◌-◌, refl, ◌∙◌, ap, count_at, length}
 use Rattle.pg_finders.specs.private.recursion.Shrunk.{aside_of}
-use Rattle.pg_finders.proofs.recursion.LoopSteps.{stop_fits}
+use Rattle.pg_finders.proofs.recursion.LoopSteps.{end_counts}
 use Rattle.pg_finders.proofs.recursion.ShrunkParts.{attract_apart, attract_at_most}
 use Rattle.pg_finders.proofs.recursion.ShrunkSolver.{with_active, attracts_for, fits, below, IsFreed, shared, reopened}
 use Rattle.pg_finders.proofs.recursion.Solver.lose.Goals as goal
 
 pub aside-aside-requires : goal.aside-aside-requires
-aside-aside-requires c = (fits c.args.self.now.frames.items c.args.frame c.requires.running c.deref.ensures.value).1
+aside-aside-requires c = (fits c.requires c.deref.ensures.value).1
 
 pub insert_all-requires : goal.insert_all-requires
-insert_all-requires c = below c.args.self.now.frames.items c.args.frame c.requires.running (c.args.frame.upto - c.args.frame.set_aside)
+insert_all-requires c = below c.requires (c.args.frame.upto - c.args.frame.set_aside)
     (c.aside-aside.ensures ∙ ap (aside_of c.args.frame) c.deref.ensures.value)
     (ap (λ s. length s.active) c.free_from.ensures.subgame ∙ c.requires.running.sizes.active)
 
 abbrev Start : Type 0
 Start = goal.After-attract-arg-2-1
 
-freed : (c : Start) → IsFreed c.args.self.now.frames.items c.args.frame c.requires.running (with_active c.free_from.new.self c.insert_all.new.mask)
-freed c = reopened c.args.self.now.frames.items c.args.frame c.requires.running c.requires.done c.free_from.new.self c.insert_all.new.mask
+freed : (c : Start) → IsFreed c.requires (with_active c.free_from.new.self c.insert_all.new.mask)
+freed c = reopened c.requires c.free_from.new.self c.insert_all.new.mask
     (c.aside-aside.ensures ∙ ap (aside_of c.args.frame) c.deref.ensures.value) c.free_from.ensures.player (c.free_from.ensures.from ∙ c.count.ensures)
     c.free_from.ensures.subgame c.free_from.ensures.settled c.insert_all.ensures.length c.insert_all.ensures.has
 
@@ -25,26 +25,26 @@ pub attract-requires-clause-parts : goal.attract-requires-clause-parts
 attract-requires-clause-parts c = (freed c).parts
 
 pub attract-requires-clause-below : goal.attract-requires-clause-below
-attract-requires-clause-below c = below c.args.self.now.frames.items c.args.frame c.requires.running (c.args.frame.upto - c.args.frame.set_aside)
+attract-requires-clause-below c = below c.requires (c.args.frame.upto - c.args.frame.set_aside)
     (c.aside-aside.ensures ∙ ap (aside_of c.args.frame) c.deref.ensures.value) refl
 
 pub attract-requires-clause-apart : goal.attract-requires-clause-apart
 attract-requires-clause-apart c = rw (c.count-2.ensures, c.other-other.ensures)
-    (attract_apart (shared c.args.self.now.frames.items c.args.frame c.requires.running c.requires.done) (freed c))
+    (attract_apart (shared c.requires) (freed c))
 
 pub attract-requires-clause-from : goal.attract-requires-clause-from
 attract-requires-clause-from c = rw (c.count-2.ensures, c.free_from.ensures.settled)
-    ((stop_fits c.args.self.now.frames.items c.args.frame c.requires.running.open_levels).0 c.other-other.result)
+    (end_counts c.requires c.other-other.result)
 
 pub attract-requires-clause-at_most : goal.attract-requires-clause-at_most
 attract-requires-clause-at_most c = rw (c.count-2.ensures, c.other-other.ensures, c.aside-aside.ensures, c.deref.ensures.value)
-    (attract_at_most (shared c.args.self.now.frames.items c.args.frame c.requires.running c.requires.done) (freed c))
+    (attract_at_most (shared c.requires) (freed c))
 
 pub returns : goal.returns
 returns c = record {
   loses = record {
     freed = with_active c.free_from.new.self c.insert_all.new.mask;
-    reopened = reopened c.args.self.now.frames.items c.args.frame c.requires.running c.requires.done c.free_from.new.self c.insert_all.new.mask
+    reopened = reopened c.requires c.free_from.new.self c.insert_all.new.mask
         (c.aside-aside.ensures ∙ ap (aside_of c.args.frame) c.deref.ensures.value) c.free_from.ensures.player (c.free_from.ensures.from ∙ c.count.ensures)
         c.free_from.ensures.subgame c.free_from.ensures.settled c.insert_all.ensures.length c.insert_all.ensures.has;
     settled = c.free_from.ensures.settled;

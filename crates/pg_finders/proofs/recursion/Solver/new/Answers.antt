@@ -1,5 +1,4 @@
-use Rattle.pg_finders.proofs.Common.{◌≡◌, length, size, sym, ◌∙◌, ap, refl, subst, members, IsSubgame, IsOrder}
-use Rattle.pg_finders.proofs.Sizes.{size_is, size_le}
+use Rattle.pg_finders.proofs.Common.{◌≡◌, how_many, sym, ◌∙◌, ap, refl, subst, members, IsSubgame, IsOrder, arith}
 use Rattle.pg_finders.proofs.recursion.StepBounds.{work_start}
 use Rattle.pg_finders.proofs.DeadEnds.{subgame_of}
 use Rattle.pg_finders.proofs.recursion.LoopSteps.{open_levels_start}
@@ -10,7 +9,7 @@ returns-clause-running c =
     let e : c.new-4.result.subgame.active ≡ c.args.view.now.mask.now = ap (λ x. x.active) c.new-4.ensures.subgame ∙ c.in_ok-subgame.ensures.active in
     record {
       inside_length = c.args.view.now.size;
-      whole = c.count-n.ensures ∙ size_is c.args.view.now.mask.now;
+      whole = c.count-n.ensures;
       sizes = rw c.new-4.ensures.subgame c.in_ok-subgame.ensures.sizes;
       subgame = subst (λ m. IsSubgame c.args.view.now.game.now (members m)) (sym e)
           (subgame_of c.args.view.now.game.now c.args.view.now.mask.now c.args.view.now.size c.args.view.now.no_dead_end);
@@ -22,6 +21,5 @@ returns-clause-running c =
 
 pub returns-clause-work : goal.returns-clause-work
 returns-clause-work c =
-    let mask = c.args.view.now.mask.now in
-    let same : length mask ≡ length mask = refl in
-    work_start (size mask) _ (size mask) _ (size_le mask mask same (λ v i. i)) c.in_ok-frames.ensures.items
+    let n = how_many c.args.view.now.mask.now in
+    work_start n _ n _ (omega arith) c.in_ok-frames.ensures.items

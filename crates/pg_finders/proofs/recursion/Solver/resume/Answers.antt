@@ -1,5 +1,5 @@
 use Rattle.pg_finders.proofs.Common.{sym, subst, on_ok_weaker, listed, In, Once, AreVertices}
-use Rattle.pg_finders.proofs.recursion.LoopSteps.{stop_fits}
+use Rattle.pg_finders.proofs.recursion.LoopSteps.{end_counts}
 use Rattle.pg_finders.proofs.recursion.ResumedSolver.{IsResumed, back_parts, back_right, back_listed, back_counts, running_now, fewer_now}
 use Rattle.pg_finders.proofs.recursion.ResumedSolver.{opened_right, opened_once, opened_all}
 use Rattle.pg_finders.proofs.recursion.Solver.resume.Goals as goal
@@ -17,14 +17,12 @@ pub win_back-requires-clause-listed : goal.win_back-requires-clause-listed
 win_back-requires-clause-listed c = back_listed c.in_ok-tops.ensures.shrinks c.in_ok-wait_again.ensures.waits
 
 pub win_back-requires-clause-counts : goal.win_back-requires-clause-counts
-win_back-requires-clause-counts c = back_counts c.in_ok-tops.ensures.shrinks c.in_ok-wait_again.ensures.waits
-    ((stop_fits c.args.self.now.frames.items c.args.frame c.requires.running.open_levels).0 c.args.frame.player)
+win_back-requires-clause-counts c = back_counts c.in_ok-tops.ensures.shrinks c.in_ok-wait_again.ensures.waits (end_counts c.requires.end c.args.frame.player)
 
 resumed : (c : goal.After-deref) → IsResumed c.args.view.now.game.now c.args.view.now.mask.now c.args.frame c.args.self.now c.shrink.new.self c.wait_again.new.self
     c.win_back.new.self c.in_ok-tops.tops
 resumed c = record {
-  running = c.requires.running;
-  none = c.requires.done;
+  at_end = c.requires.end;
   some = c.requires.some;
   shrinks = c.in_ok-tops.ensures.shrinks;
   waits = c.in_ok-wait_again.ensures.waits;
@@ -48,8 +46,7 @@ refill-requires-clause-listed c = λ v i. subst (λ xs. In (listed xs) v) (sym c
 ended : (c : goal.After-refill) → IsResumed c.args.view.now.game.now c.args.view.now.mask.now c.args.frame c.args.self.now c.shrink.new.self c.wait_again.new.self
     c.win_back.new.self c.in_ok-tops.tops
 ended c = record {
-  running = c.requires.running;
-  none = c.requires.done;
+  at_end = c.requires.end;
   some = c.requires.some;
   shrinks = c.in_ok-tops.ensures.shrinks;
   waits = c.in_ok-wait_again.ensures.waits;

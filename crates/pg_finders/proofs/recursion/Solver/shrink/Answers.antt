@@ -1,57 +1,59 @@
-use Rattle.pg_finders.proofs.Common.{◌≡◌, ◌-◌, refl, ◌∙◌, active_of}
+use Rattle.pg_finders.proofs.Common.{◌≡◌, ◌-◌, refl, ◌∙◌, ap, active_of}
 use Rattle.pg_finders.specs.private.recursion.Shrunk.{greatest_of}
+use Rattle.pg_finders.proofs.recursion.LoopSteps.{last_popped}
 use Rattle.pg_finders.proofs.recursion.ShrunkParts.{begin_tops, begin_others}
 use Rattle.pg_finders.proofs.recursion.ShrunkSolver.{fits_still, below, once, tops_are, aside_still, greatest_still, listed_below, shared, shrinks}
 use Rattle.pg_finders.proofs.recursion.Solver.shrink.Goals as goal
 
 pub greatest-greatest-requires : goal.greatest-greatest-requires
 greatest-greatest-requires c =
-    (fits_still c.args.self.now.frames.items c.args.frame c.requires.running c.in_ok-lose.ensures.loses c.deref.ensures.value).0
+    (fits_still c.requires c.in_ok-lose.ensures.loses c.deref.ensures.value).0
 
 abbrev Lost : Type 0
 Lost = goal.After-begin_again-arg-2-1
 
 greatest_is : (c : Lost) → c.greatest-greatest.result.now ≡ greatest_of c.args.frame c.args.self.now.set_aside.items
-greatest_is c = greatest_still c.args.self.now.frames.items c.args.frame c.requires.running c.in_ok-lose.ensures.loses c.greatest-greatest.ensures
+greatest_is c = greatest_still c.requires c.in_ok-lose.ensures.loses c.greatest-greatest.ensures
     c.deref.ensures.value
 
 pub begin_again-requires-clause-below : goal.begin_again-requires-clause-below
-begin_again-requires-clause-below c = below c.args.self.now.frames.items c.args.frame c.requires.running (c.args.frame.tops - c.args.frame.set_aside)
+begin_again-requires-clause-below c = below c.requires (c.args.frame.tops - c.args.frame.set_aside)
     (greatest_is c) refl
 
 pub begin_again-requires-clause-once : goal.begin_again-requires-clause-once
-begin_again-requires-clause-once c = once c.args.self.now.frames.items c.args.frame c.requires.running (c.args.frame.tops - c.args.frame.set_aside)
+begin_again-requires-clause-once c = once c.requires (c.args.frame.tops - c.args.frame.set_aside)
     (greatest_is c)
 
 pub begin_again-requires-clause-tops : goal.begin_again-requires-clause-tops
 begin_again-requires-clause-tops c v t i = (let l = c.in_ok-lose.ensures.loses in
-    begin_tops (shared c.args.self.now.frames.items c.args.frame c.requires.running c.requires.done) l.reopened l.attracts l.parts v i)
+    begin_tops (shared c.requires) l.reopened l.attracts l.parts v i)
 
 pub begin_again-requires-clause-others : goal.begin_again-requires-clause-others
 begin_again-requires-clause-others c v i n = (let l = c.in_ok-lose.ensures.loses in
-    begin_others (shared c.args.self.now.frames.items c.args.frame c.requires.running c.requires.done) l.reopened l.attracts l.parts v i
-    (tops_are c.args.self.now.frames.items c.args.frame c.requires.running (greatest_is c) v ∙ n))
+    begin_others (shared c.requires) l.reopened l.attracts l.parts v i
+    (tops_are c.requires (greatest_is c) v ∙ n))
 
 pub aside-aside-requires : goal.aside-aside-requires
 aside-aside-requires c =
-    (fits_still c.args.self.now.frames.items c.args.frame c.requires.running c.in_ok-lose.ensures.loses c.deref-2.ensures.value).1
+    (fits_still c.requires c.in_ok-lose.ensures.loses c.deref-2.ensures.value).1
 
 pub list_active-requires : goal.list_active-requires
-list_active-requires c = below c.args.self.now.frames.items c.args.frame c.requires.running (c.args.frame.upto - c.args.frame.set_aside)
-    (aside_still c.args.self.now.frames.items c.args.frame c.requires.running c.in_ok-lose.ensures.loses c.aside-aside.ensures c.deref-2.ensures.value)
+list_active-requires c = below c.requires (c.args.frame.upto - c.args.frame.set_aside)
+    (aside_still c.requires c.in_ok-lose.ensures.loses c.aside-aside.ensures c.deref-2.ensures.value)
     c.in_ok-tops.ensures.parts.sizes.active
 
 pub open-requires-clause-below : goal.open-requires-clause-below
-open-requires-clause-below c = listed_below c.args.self.now.frames.items c.args.frame c.requires.running (active_of c.begin_again.new.self.subgame)
+open-requires-clause-below c = listed_below c.requires (active_of c.begin_again.new.self.subgame)
     c.in_ok-list_active.ensures c.clear.ensures.items
-    (aside_still c.args.self.now.frames.items c.args.frame c.requires.running c.in_ok-lose.ensures.loses c.aside-aside.ensures c.deref-2.ensures.value)
+    (aside_still c.requires c.in_ok-lose.ensures.loses c.aside-aside.ensures c.deref-2.ensures.value)
 
 pub returns : goal.returns
 returns c = (let l = c.in_ok-lose.ensures.loses in record {
-  shrinks = shrinks c.args.self.now.frames.items c.args.frame c.requires.running c.requires.done c.other-other.ensures l c.in_ok-tops.ensures.begins
+  shrinks = shrinks c.requires c.other-other.ensures l c.in_ok-tops.ensures.begins
       c.in_ok-tops.ensures.parts
-      (greatest_still c.args.self.now.frames.items c.args.frame c.requires.running l c.greatest-greatest.ensures c.deref.ensures.value)
+      (greatest_still c.requires l c.greatest-greatest.ensures c.deref.ensures.value)
       c.in_ok-open.ensures.opened c.in_ok-list_active.ensures c.clear.ensures.items
-      (aside_still c.args.self.now.frames.items c.args.frame c.requires.running l c.aside-aside.ensures c.deref-2.ensures.value)
-      c.in_ok-open.ensures.none c.count-won.ensures c.in_ok-open.ensures.parts c.truncate.ensures.items refl refl refl;
+      (aside_still c.requires l c.aside-aside.ensures c.deref-2.ensures.value)
+      c.in_ok-open.ensures.none c.count-won.ensures c.in_ok-open.ensures.parts c.truncate.ensures.items
+      (last_popped c.lose.new.self.frames c.requires.before c.args.frame (ap (λ fs. fs.items) l.kept.frames ∙ c.requires.last) c.pop.ensures.rest) refl refl;
 })

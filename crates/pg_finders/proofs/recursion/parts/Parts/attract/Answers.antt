@@ -1,7 +1,7 @@
-use Rattle.pg_finders.proofs.Common.{◌≡◌, ◌++◌, ◌<◌, All, length, drop, sym, ap, subst, arith, settled_of}
+use Rattle.pg_finders.proofs.Common.{◌≡◌, ◌++◌, ◌<◌, All, length, drop, sym, subst, settled_of}
 use Rattle.std.proofs.lemmas.Bool.{lt-ltb}
 use Rattle.pg_finders.specs.private.recursion.Settled.{IsPlaced}
-use Rattle.pg_finders.proofs.recursion.AttractedParts.{TestsThese, AttractsInTwo, half_open, fit_below, few_listed, settled_parts, attracts_free}
+use Rattle.pg_finders.proofs.recursion.AttractedParts.{TestsThese, AttractsInTwo, half_open, fit_below, settled_parts, attracts_free}
 use Rattle.pg_finders.proofs.recursion.parts.Parts.attract.Goals as goal
 
 pub attract_from-requires-clause-below : goal.attract_from-requires-clause-below
@@ -14,11 +14,6 @@ attract_from-requires-clause-done c =
     c.args.self.now c.clear.new.self.items c.test_all.new.self c.test_all.new.list.items =
     record { empty = c.clear.ensures.items; apart = c.requires.apart; at_most = c.requires.at_most; fewer = h.fewer; grown = h.grown; tested = h.tested } in
     half_open tests
-
-pub add_all-requires-clause-few : goal.add_all-requires-clause-few
-add_all-requires-clause-few c =
-    let same : length c.deref.result.now ≡ length c.attract_from.new.list.items = ap length c.deref.ensures.value in
-    omega (arith, few_listed c.in_ok-attract_from.ensures.ready c.args.player, c.len-n.ensures.limits.vertices, same)
 
 in_two : (c : goal.In_ok-add_all) → AttractsInTwo c.args.game.now c.args.player (drop c.args.from (settled_of c.args.self.now.settled c.args.player))
     c.args.vertices.now c.args.self.now c.clear.new.self.items c.test_all.new.self c.test_all.new.list.items c.attract_from.new.state

@@ -1,4 +1,4 @@
-use Rattle.pg_finders.proofs.RowsByPlace.{view_length}
+use Rattle.pg_finders.proofs.small.FewRows.{view_length}
 use Rattle.pg_finders.proofs.small.rows.Chosen.len.Goals as goal
 
 pub returns-clause-number : goal.returns-clause-number

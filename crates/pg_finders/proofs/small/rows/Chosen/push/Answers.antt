@@ -1,5 +1,5 @@
 use Rattle.pg_finders.proofs.Common.{◌<◌, refl, ◌∙◌, arith, length-set, None, get_or}
-use Rattle.pg_finders.proofs.RowsByPlace.{view_length}
+use Rattle.pg_finders.proofs.small.FewRows.{view_length}
 use Rattle.pg_finders.proofs.small.Bits.{bits_push}
 use Rattle.pg_finders.proofs.small.rows.Chosen.push.Goals as goal
 

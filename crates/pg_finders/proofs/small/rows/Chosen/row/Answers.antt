@@ -1,4 +1,4 @@
-use Rattle.pg_finders.proofs.RowsByPlace.{view_row}
+use Rattle.pg_finders.proofs.small.FewRows.{view_row}
 use Rattle.pg_finders.proofs.small.rows.Chosen.row.Goals as goal
 
 pub returns : goal.returns

@@ -1,8 +1,8 @@
-use Rattle.pg_finders.proofs.Common.{sym, ◌∙◌, subst, length-set, get_or-set_other, rules, IsNone, priority_of, Walk, vertex_in, Under, cases_eq}
-use Rattle.pg_finders.proofs.Common.{get_or-set_same}
+use Rattle.pg_finders.proofs.Common.{sym, ◌∙◌, subst, length-set, get_or-set_other, rules, IsNone, priority_of, Walk, Under, row_at}
+use Rattle.pg_finders.proofs.Common.{arith}
 use Rattle.pg_finders.proofs.small.WayBack.{reached_way, ways_push, no_way_back}
 use Rattle.pg_finders.proofs.small.rows.FirstRows.walks_back.Goals as goal
-use Rattle.pg_finders.proofs.Sizes.{size_less}
+use Rattle.pg_finders.proofs.Masks.{how_many-unset}
 
 pub returns-then-to-start-clause-back : goal.returns-then-to-start-clause-back
 returns-then-to-start-clause-back c = λ _.
@@ -12,12 +12,12 @@ returns-then-to-start-clause-back c = λ _.
     let way = reached_way g p rows c.args.self.now.done c.args.self.now.within c.args.start c.in-Some.to c.rows.left c.requires c.rows.invariant.walks
     c.in-Some.ensures.found in (
       way.0,
-      subst (λ x. Walk (Under g p rows c.args.self.now.done (priority_of g (vertex_in rows c.args.start))) (vertex_in rows c.args.start) way.0
-          (vertex_in rows x)) c.if-to-start.true way.1,
+      subst (λ x. Walk (Under g p rows c.args.self.now.done (priority_of g (row_at rows c.args.start).0)) (row_at rows c.args.start).0 way.0
+          (row_at rows x).0) c.if-to-start.true way.1,
     )
 
 pub rows-smaller : goal.rows-smaller
-rows-smaller c = search (rules, size_less, length-set, get_or-set_same, cases_eq, get_or-set_other, c.args.self.now.within, c.args.self.now.few.few, c.rows.invariant.size)
+rows-smaller c = omega (arith, how_many-unset c.rows.left c.in-Some.to c.in-Some.ensures.found.1)
 
 pub rows-preserved : goal.rows-preserved
 rows-preserved c =

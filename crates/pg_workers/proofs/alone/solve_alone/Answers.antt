@@ -1,0 +1,35 @@
+use Rattle.std.specs.Prelude.{Option, None, IfSome}
+use Rattle.pg_workers.proofs.Common.{◌≡◌, ℕ, zero, suc, ◌≤◌, length, ap, arith, Some, slice_get, Graph, Player, KnownRows, own_choices, known_choice}
+use Rattle.pg_text.specs.declared.solution_text.Solution.{Solution}
+use Rattle.pg_finders.specs.Steps.{steps}
+use Rattle.pg_board.specs.State.{State}
+use Rattle.pg_board.specs.Finish.{MayGiveUp, number_unsettled}
+use Rattle.pg_workers.specs.KnownRegions.{KeepsKnown}
+use Rattle.pg_workers.proofs.alone.solve_alone.Goals as goal
+
+-- more vertices take no fewer steps
+steps_grow : (m n : ℕ) → m ≤ n → steps m ≤ steps n
+steps_grow zero zero le = omega arith
+steps_grow zero (suc n) le = let h = steps_grow zero n (omega arith) in omega (arith, h)
+steps_grow (suc m) zero le = absurd (omega (arith, le))
+steps_grow (suc m) (suc n) le = let h = steps_grow m n (omega (arith, le)) in omega (arith, h)
+
+may_give_up : (limit : Option ℕ) (m n : ℕ) → m ≤ n → MayGiveUp limit m → MayGiveUp limit n
+may_give_up None m n le h = h
+may_give_up (Some k) m n le h = let s = steps_grow m n le in omega (arith, h, s)
+
+-- what the board has of what is known, the solution has too
+known_kept : (found : Option Solution) (g : Graph) (known : KnownRows) (st : State) → KeepsKnown g known st
+    → IfSome found (λ s. (v : ℕ) (r : Player × Option ℕ) → st v ≡ Some r → slice_get s.rows v ≡ Some r)
+    → IfSome found (λ s. KeepsKnown g known (λ v. slice_get s.rows v))
+known_kept None g known st keeps h = tt
+known_kept (Some s) g known st keeps h = λ p v i. h v (p, own_choices g p (known_choice known) v) (keeps p v i)
+
+pub returns-clause-kept : goal.returns-clause-kept
+returns-clause-kept c = known_kept _ _ _ _ c.in_ok-board.ensures.known.states c.in_ok-solve_board.ensures.kept
+
+pub returns-clause-limited : goal.returns-clause-limited
+returns-clause-limited c = λ none.
+    let board = c.in_ok-board.board in
+    let same : length board.graph ≡ length c.args.of.now.game.now = ap (λ (g : Graph). length g) c.in_ok-board.ensures.game in
+    may_give_up c.args.limit (number_unsettled board) (length c.args.of.now.game.now) (omega (arith, same)) (c.in_ok-solve_board.ensures.limited none)

@@ -1,0 +1,3 @@
+-- Lemmas of the proofs of `known`.
+pub mod RefusedSets
+pub mod SetRows

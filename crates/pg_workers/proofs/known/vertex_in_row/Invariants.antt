@@ -1,0 +1,9 @@
+use Rattle.pg_workers.proofs.Common.{◌≡◌, ◌≤◌, length, known_of, known_choice, own_choices, rows_below}
+use Rattle.pg_workers.proofs.known.vertex_in_row.Given as goal
+
+-- so many vertices of the set were seen, and no more than are looked for
+abbrev pub invariant-loop-v : goal.invariant-loop-v
+invariant-loop-v l = record {
+  seen : l.before ≡ length (rows_below (known_of l.of.known.now.rows l.player) (own_choices l.of.game.now l.player (known_choice l.of.known.now.rows)) l.v);
+  few : l.before ≤ l.row;
+}

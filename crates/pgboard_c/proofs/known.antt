@@ -1,2 +1,0 @@
--- Lemmas of the proofs of `known`.
-pub mod NoShapeFault
