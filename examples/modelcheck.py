@@ -235,7 +235,6 @@ def options(words):
 
 
 def formula_of(word, text):
-    """The formula that a word is, or that the file has which it names."""
     if text is not None:
         return Formula(word, text)
     try:

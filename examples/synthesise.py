@@ -139,21 +139,10 @@ def rows_of(machine, width):
 
 
 def table(rows, names, inputs, outputs):
-    """A machine's text in KISS2; the first row's state is where it begins."""
-    head = [
-        f"# {what}: {printable(' '.join(names[it] for it in some))}"
-        for what, some in (("inputs", inputs), ("outputs", outputs))
-    ]
-    head += [
-        f".i {len(inputs)}",
-        f".o {len(outputs)}",
-        f".p {len(rows)}",
-        f".s {len({it[1] for it in rows})}",
-        f".r s{rows[0][1]}",
-    ]
-    return "\n".join(
-        [*head, *(f"{read} s{state} s{to} {written}" for read, state, to, written in rows), ".e", ""]
-    )
+    named = lambda some: printable(" ".join(names[it] for it in some))
+    head = f"# inputs: {named(inputs)}\n# outputs: {named(outputs)}\n.i {len(inputs)}\n.o {len(outputs)}\n"
+    head += f".p {len(rows)}\n.s {len({it[1] for it in rows})}\n.r s{rows[0][1]}\n"
+    return head + "".join(f"{read} s{state} s{to} {written}\n" for read, state, to, written in rows) + ".e\n"
 
 
 def check(automaton, text, player, inputs, outputs):
@@ -202,7 +191,6 @@ def check(automaton, text, player, inputs, outputs):
 
 
 def draw(path, rows):
-    """Draws a machine: its states, and on each arrow what is read and what is written."""
     arrows = {}
     for read, state, to, written in rows:
         arrows.setdefault((state, to), []).append(f"{read} / {written}")

@@ -47,11 +47,17 @@ class Bench(unittest.TestCase):
         os.makedirs(cls.bench.OUT, exist_ok=True)
 
     def ran(self, *words, program=common.PROGRAM, status=0):
-        """The lines that bench/run prints."""
         words = [sys.executable, BENCH / "run", program, *words, "--runs", "1"]
         got, out, err = common.run(words, timeout=1800)
         self.assertEqual(got, status, out + err)
         return out.decode().splitlines()
+
+    def without_inputs(self, **fields):
+        """One whose methods are called, or replaced, each by itself."""
+        made = self.bench.Bench.__new__(self.bench.Bench)
+        vars(made).update(runs=3, comparator="comparator", scratch="scratch", folder="folder", **fields)
+        made.agree = lambda *_: True
+        return made
 
     def test_each_command_runs(self):
         inputs = ["own_loops", "one_own_loop_too_many"]
@@ -76,9 +82,7 @@ class Bench(unittest.TestCase):
 
     def test_the_cells_of_given_figures(self):
         """Medians of three runs, their units, and each ratio."""
-        bench = self.bench.Bench.__new__(self.bench.Bench)
-        bench.runs, bench.columns, bench.scratch, bench.folder = 3, ["ms", "cpu", "MiB"], "scratch", "folder"
-        bench.binary, bench.comparator, bench.agree = "program", "comparator", lambda *_: True
+        bench = self.without_inputs(columns=["ms", "cpu", "MiB"], binary="program")
         # seconds, CPU seconds and MiB of each run, after one that does not count
         took = {
             "program": [(9, 9, 9), (0.004, 0.03, 2), (0.001, 0.07, 6), (0.009, 0.02, 4)],
@@ -110,9 +114,7 @@ class Bench(unittest.TestCase):
         """It is a column of `solve` alone; what takes over the limit is ended, and a wrong status is named."""
         words = ["--only", "own_loops", "--commands", "tidy", "solve", "--columns", "plain"]
         self.assertRegex(self.ran(*words)[2], r"^\| own_loops \| - \| [0-9.]+ \([0-9.]+\) \|$")
-        bench = self.bench.Bench.__new__(self.bench.Bench)
-        bench.runs, bench.comparator, bench.scratch, bench.folder, bench.wrong = 3, "comparator", "", "", []
-        bench.agree = lambda *_: True
+        bench = self.without_inputs(wrong=[])
         for statuses, wanted in (((0, 0, 0, 0), 3), ((0, 124), math.inf), ((0, 1), "WRONG")):
             took = iter([(status, 9, at, 9) for status, at in zip(statuses, (1, 2, 4, 3))])
             bench.run = lambda *_: next(took)
@@ -120,7 +122,6 @@ class Bench(unittest.TestCase):
         self.assertEqual(bench.wrong, ["game plain WRONG: status 1, or no solution"])
 
     def test_the_sparse_games_are_those_of_the_page(self):
-        """Each has so many vertices, rows that are so long, and this share of edges of a form."""
         n, found = 100_000, {}
         for name, (_, is_so) in SPARSE.items():
             text = (self.bench.inputs([f"{name}_{n}"]) / f"{name}_{n}.pg").read_text(encoding="ascii")
@@ -131,8 +132,7 @@ class Bench(unittest.TestCase):
         self.assertEqual(found, {name: (n, *it[0]) for name, it in SPARSE.items()})
 
     def test_the_figures_of_a_run_are_in_their_units(self):
-        bench = self.bench.Bench.__new__(self.bench.Bench)
-        bench.measure = self.bench.build(str(BENCH / "measure.rs"), "measure")
+        bench = self.without_inputs(measure=self.bench.build(str(BENCH / "measure.rs"), "measure"))
         ran = lambda text: bench.run(sys.executable, ["-c", text], os.devnull)
         sleep = ran("import time; time.sleep(0.6)")
         loop = ran("import time\nwhile time.process_time() < 0.6: pass")

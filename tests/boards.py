@@ -432,7 +432,6 @@ class Outside(Boards):
                 self.assertRegex(got[2].decode(), rf"^{line}\n$")
 
     def long(self):
-        """A game that takes more memory."""
         return self.file("long.pg", "".join(f"{v} {v} 0 {v};\n" for v in range(500_000)))
 
     @unittest.skipIf(embed.OTHER, "another library is tested")

@@ -1,5 +1,5 @@
-"""Reads circuits in the AIGER format (version 1.0), ASCII and binary, and follows them; writes tables as
-circuits of another kind. Nothing of it is taken from examples/lib/aiger.py: tests compare the two.
+"""Reads circuits in the AIGER format (version 1.0), ASCII and binary, and follows them. Nothing of it is
+taken from examples/lib/aiger.py: tests compare the two.
 """
 
 
@@ -30,9 +30,8 @@ class Circuit:
             gate = self.binary_gate(2 * (inputs + latches + at) + 2) if self.is_binary else self.numbers(3)
             self.gates[gate[0]] = tuple(gate[1:])
         self.judge(gates)
-        self.symbols = self.names()
-        self.read_names = [self.symbols[f"i{it}"] for it in range(inputs)]
-        self.write_names = [self.symbols[f"o{it}"] for it in range(outputs)]
+        names = self.names()
+        self.read_names, self.write_names = names[:inputs], names[inputs + latches :]
         self.first = (0,) * latches
 
     def numbers(self, count):
@@ -75,17 +74,11 @@ class Circuit:
             demand(gate > left >= right, "a gate is before what it takes")
 
     def names(self):
-        found = {}
-        for line in self.rest.decode("utf-8").splitlines():
-            key, blank, name = line.partition(" ")
-            demand(blank and key[0] in "ilo" and key not in found, line)
-            found[key] = name
-        kinds = [
-            *(f"i{it}" for it in range(len(self.inputs))),
-            *(f"l{it}" for it in range(len(self.latches))),
-        ]
-        demand(list(found) == kinds + [f"o{it}" for it in range(len(self.outputs))], "its symbols")
-        return found
+        found = [line.partition(" ") for line in self.rest.decode("utf-8").splitlines()]
+        counts = zip("ilo", map(len, (self.inputs, self.latches, self.outputs)))
+        keys = [f"{letter}{at}" for letter, count in counts for at in range(count)]
+        demand([key for key, _, _ in found] == keys, "its symbols")
+        return [name for _, _, name in found]
 
     def step(self, state, read):
         values = {
@@ -98,28 +91,3 @@ class Circuit:
             left, right = self.gates[gate]
             values[gate] = value(left) & value(right)
         return tuple(value(it) for _, it in self.latches), "".join(str(value(it)) for it in self.outputs)
-
-
-def blif(machine):
-    """A table in KISS2 as a circuit in the BLIF format that has a latch for each of several states, and a
-    sum of cubes for each bit.
-    """
-    states = list(machine.rows) if len(machine.rows) > 1 else []
-    lines = [
-        ".model table",
-        " ".join([".inputs", *machine.read_names]),
-        " ".join([".outputs", *machine.write_names]),
-    ]
-    lines += [f".latch next_{state} at_{state} {int(state == machine.first)}" for state in states]
-    sides = " ".join([*machine.read_names, *(f"at_{state}" for state in states)])
-    cubes = {name: [] for name in [*(f"next_{state}" for state in states), *machine.write_names]}
-    for state, rows in machine.rows.items():
-        here = "".join("1" if it == state else "-" for it in states)
-        for read, to, written in rows:
-            for name in [f"next_{to}"] * bool(states) + [
-                it for it, value in zip(machine.write_names, written) if value == "1"
-            ]:
-                cubes[name].append(f"{read}{here} 1")
-    for name, found in cubes.items():
-        lines += [f".names {sides if found else ''} {name}", *found]
-    return "\n".join([*lines, ".end", ""])

@@ -16,6 +16,8 @@ import unittest
 
 import common
 import plain
+from common import GAME as TIDY
+from common import NO_MEMORY, READ_FAULT
 
 CASES = common.ROOT / "tests" / "cli"
 SECTION = re.compile(r"(?m)^-- (args|file \S.*|stdin|stdout|stderr|status)\n")
@@ -84,21 +86,13 @@ LONGEST = 268_435_456
 GAME = b"0 2 0 0,1; 1 1 1 1;"
 HOLDS = b"0 0 0; 1 1 1;"
 JOINED = GAME + b"%" + HOLDS
-TIDY = b"parity 1;\n0 2 0 0,1;\n1 1 1 1;\n"
 LARGE = b"".join(b"%d %d %d %d,%d;\n" % (v, v % 4000, v % 2, *sorted((v, (v + 1) % 60_000))) for v in range(60_000))
 LARGE_TIDY = b"parity 59999;\n" + LARGE
 OK = (0, b"ok\n", b"")
 # None is any output
 WRITE_FAULT = (4, None, b"pgboard: write fault\n")
-READ_FAULT = (4, b"", b"pgboard: read fault\n")
-NO_MEMORY = (5, b"", b"pgboard: no memory\n")
-
-
-def refused(why):
-    return 3, b"", f"pgboard: {why}\n".encode()
-
-
-BAD_OWNER, TOO_LONG = refused("game: byte 4: owner is not 0 or 1"), refused("text too long")
+BAD_OWNER = plain.refused("game", "byte 4: owner is not 0 or 1")
+TOO_LONG = 3, b"", b"pgboard: text too long\n"
 # what bash runs in a folder with game.pg and game.sol, where "$@" is the program with its words; the words, the input and the answer
 DEVICES = {
     "a_reader_that_stops_early_is_a_write_fault": ('"$@" | head -c 5 >/dev/null; exit ${PIPESTATUS[0]}', ["tidy"], LARGE, WRITE_FAULT),
@@ -119,7 +113,7 @@ DEVICES = {
         """exec env -i "$(printf '%70001s' x)=" "$@" """,
         ["tidy", "/proc/self/environ"],
         b"",
-        refused("game: byte 70001: no token"),
+        plain.refused("game", "byte 70001: no token"),
     ),
     # (the pipe has a writer that writes nothing: a program that read it first would never end)
     "a_bad_game_is_named_before_a_solution_that_waits": (
@@ -133,19 +127,26 @@ DEVICES = {
         f"""head -c {LONGEST} /dev/zero | tr '\\0' ' ' | "$@" """,
         ["tidy"],
         b"",
-        refused(f"game: byte {LONGEST}: not expected"),
+        plain.refused("game", f"byte {LONGEST}: not expected"),
     ),
     "a_text_with_one_byte_more_is_too_long": (f"""head -c {LONGEST + 1} /dev/zero | tr '\\0' ' ' | "$@" """, [], b"", TOO_LONG),
     # (files of zeros, which take no memory)
-    "a_file_of_the_greatest_length_is_read": ('exec "$@"', ["tidy", "longest"], b"", refused("game: byte 0: no token")),
+    "a_file_of_the_greatest_length_is_read": (
+        'exec "$@"',
+        ["tidy", "longest"],
+        b"",
+        plain.refused("game", "byte 0: no token"),
+    ),
     "a_file_with_one_byte_more_is_too_long": ('exec "$@"', ["tidy", "longer"], b"", TOO_LONG),
     "a_file_of_a_terabyte_is_too_long": ('exec "$@"', ["tidy", "terabyte"], b"", TOO_LONG),
 }
 SIZES = {"long": 100_000_000, "longest": LONGEST, "longer": LONGEST + 1, "terabyte": 1 << 40}
 # those that have no time or no memory with run-time checks
-NEEDS_SPEED = ["refused_memory_is_status_5_and_nothing_is_written", *(name for name, row in DEVICES.items() if row[0].startswith("head -c 2684"))]
-NEEDS_SPEED += ["a_reader_that_stops_early_is_a_write_fault", "a_slow_reader_gets_the_whole_output", "a_named_pipe_is_read_as_a_file_is"]
-NEEDS_SPEED += ["a_file_of_the_greatest_length_is_read", "a_file_with_one_byte_more_is_too_long", "a_file_of_a_terabyte_is_too_long"]
+NEEDS_SPEED = [
+    name
+    for name, (script, words, given, _) in DEVICES.items()
+    if given is LARGE or re.search("<long|head -c 2684|longe|terabyte", " ".join([script, *words]))
+]
 # runs whose output is refused
 WRITING = [
     ([], JOINED),
@@ -245,17 +246,14 @@ def wide_vertex(count):
     return rows_of([0], range(count)) + own_loops(count).partition(b"\n")[2]
 
 
-def chain(count):
-    """Odd's vertex leads to all others, which Even's first loop attracts one after another, from the first on."""
-    rest = b"".join(b"%d 0 0 %d;\n" % (v, v - 1) for v in range(2, count))
-    return b"0 0 1 " + b",".join(b"%d" % v for v in range(1, count)) + b";\n1 0 0 1;\n" + rest
+def chain(count, end=b"1 0 0 1;\n", priority=0):
+    """Odd's vertex leads to all others, which Even attracts one after another to his loop, or another end."""
+    rest = b"".join(b"%d %d 0 %d;\n" % (v, priority, v - 1) for v in range(1 + end.count(b"\n"), count))
+    return b"0 0 1 " + b",".join(b"%d" % v for v in range(1, count)) + b";\n" + end + rest
 
 
-def chain_to_a_cycle(count):
-    """As `chain`, to six vertices of two successors each: no loop, and neither player has single successors, so the recursion is left."""
-    cycle = b"".join(b"%d 2 0 %d,%d;\n" % (v, v % 6 + 1, (v + 1) % 6 + 1) for v in range(1, 7))
-    rest = b"".join(b"%d 1 0 %d;\n" % (v, v - 1) for v in range(7, count))
-    return b"0 0 1 " + b",".join(b"%d" % v for v in range(1, count)) + b";\n" + cycle + rest
+# six vertices of two successors each: no loop, and no player has single successors, so the recursion is left
+CYCLE = b"".join(b"%d 2 0 %d,%d;\n" % (v, v % 6 + 1, (v + 1) % 6 + 1) for v in range(1, 7))
 
 
 def all_to_even(count, own=False):
@@ -295,7 +293,7 @@ def greatest_solution():
     return b"paritysol %d;\n" % (FIRST + VERTICES - 1) + b"".join(b"%d 0 %d;\n" % (FIRST + v, FIRST + w) for v, w in enumerate(nexts))
 
 
-TOO_MANY_VERTICES, TOO_MANY_EDGES = refused("game: too many vertices"), refused("game: too many edges")
+TOO_MANY_VERTICES, TOO_MANY_EDGES = (plain.refused("game", f"too many {it}") for it in ("vertices", "edges"))
 WINNERS = ["solve", "--winners"]
 # the words, what makes the text, and the answer; in place of its output the greatest identifier of a game that is written
 # as it is read, or what makes a solution
@@ -319,7 +317,11 @@ LIMITS = {
     "solve_as_many_vertices_as_may_be": (WINNERS, lambda: own_loops(VERTICES), lambda: all_to_even(VERTICES)),
     # (a search that began again at the first successor each time would take minutes)
     "solve_a_chain_of_all_successors_of_a_vertex": (WINNERS, lambda: chain(VERTICES), lambda: all_to_even(VERTICES)),
-    "solve_such_a_chain_by_the_recursion": ([*WINNERS, "--bound", "0"], lambda: chain_to_a_cycle(VERTICES), lambda: all_to_even(VERTICES)),
+    "solve_such_a_chain_by_the_recursion": (
+        [*WINNERS, "--bound", "0"],
+        lambda: chain(VERTICES, CYCLE, 1),
+        lambda: all_to_even(VERTICES),
+    ),
     "solve_own_loops_of_even_priorities": (
         ["solve", "--workers", "1", "--bound", "0"],
         lambda: own_loops(5_000, lambda v: 2 * v),

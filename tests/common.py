@@ -22,12 +22,14 @@ ROOT = pathlib.Path(__file__).resolve().parent.parent
 IS_GATE = bool(os.environ.get("PGBOARD_GATE"))
 # the tree in which rt proves and builds the C library: in the gate build_library.py has done so in a copy
 PROVED = pathlib.Path(os.environ.get("PGBOARD_PROVED") or ROOT)
+# a game and its solution, as they are written, and answers of the program: status, output and error
+GAME, SOLUTION = b"parity 1;\n0 2 0 0,1;\n1 1 1 1;\n", b"paritysol 1;\n0 0 0;\n1 1 1;\n"
+READ_FAULT, NO_MEMORY = (4, b"", b"pgboard: read fault\n"), (5, b"", b"pgboard: no memory\n")
 # what `rt ci` and `rt run` build
 BUILT = ROOT / "crates" / "pgboard_program" / "out" / "pgboard_program"
 
 
 def last_built():
-    """The program that was built last, if there is one: by `rt`, or by ./pgboard with and without proofs."""
     programs = [BUILT, ROOT / "out" / "proved" / "pgboard", ROOT / "out" / "unproved" / "pgboard"]
     return max(programs, key=lambda it: it.stat().st_mtime if it.exists() else 0)
 
@@ -50,7 +52,6 @@ def make_folder(case):
 
 
 def write_program(path, text):
-    """Writes a script that may be run, in a folder that is made where there is none, and returns its path."""
     path.parent.mkdir(parents=True, exist_ok=True)
     path.write_text(text)
     path.chmod(0o755)
@@ -78,7 +79,6 @@ def wait_until(is_so, seconds=60):
 
 
 def run(words, given=b"", timeout=60, **how):
-    """Runs a command and returns its status, standard output and standard error."""
     ran = subprocess.run(words, input=given, capture_output=True, timeout=timeout, **how)
     return ran.returncode, ran.stdout, ran.stderr
 
@@ -113,7 +113,6 @@ def drawn(text):
 
 
 def is_alive(pid):
-    """Whether a process of this number is there and has not ended."""
     with contextlib.suppress(OSError), open(f"/proc/{pid}/stat", errors="replace") as file:
         return file.read().rsplit(")", 1)[1].split()[0] != "Z"
     return False

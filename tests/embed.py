@@ -203,9 +203,7 @@ class Embed(unittest.TestCase):
 
     def test_the_header_in_c_and_cpp(self):
         source = self.folder / "header.c"
-        source.write_text(
-            '#include "pgboard.h"\nint main(void) { return pgboard_strerror(0) == 0; }\n'
-        )
+        source.write_text('#include "pgboard.h"\nint main(void) { return pgboard_strerror(0) == 0; }\n')
         flags = {"-xc": ["c89", "c99", "c11", "c17"], "-xc++": ["c++98", "c++11", "c++17", "c++20"]}
         for compiler in common.installed("gcc", "clang"):
             for language, standards in flags.items():

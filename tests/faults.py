@@ -25,7 +25,6 @@ def name_of(group, name):
 
 
 def defined_others():
-    """The numbers of arrays and structs, and the limits, in the definitions."""
     for group, name, number in re.findall(r"(?m)^(array|structure)_number \w+\.(\w+) = (\d+)$", NUMBERS):
         yield name_of(group, name), int(number)
     for path in common.ROOT.glob("crates/*/specs/*.antt"):

@@ -16,7 +16,6 @@ SHELLS = {
 
 
 def offers():
-    """What a shell offers after some words."""
     commands = set(re.findall(r"(?m)^  ([a-z]+) ", common.program("-h")[1].decode()))
     yield "", commands
     yield "help ", commands

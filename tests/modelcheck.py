@@ -246,6 +246,8 @@ class ModelCheck(scripts.Use, unittest.TestCase):
             self.folder / it for it in ("model.aut", "evidence.aut", "game.pg")
         )
         self.model.write_text(scripts.MODEL)
+        # (the size is looked at on the way)
+        self.script.MANY = 2
 
     def check(self, path, formula, expected, *words):
         self.assertEqual(
@@ -379,17 +381,6 @@ class ModelCheck(scripts.Use, unittest.TestCase):
         self.model.write_text(Model(0, 1, [(0, "i", 0), (0, "tau", 0)]).text)
         self.assertEqual(self.run_script(self.model, "<tau> true")[1:], ("true\n", SIZE.format(2, 2)))
 
-    def test_the_name_of_a_formulas_file(self):
-        """Where a formula is refused whose text may be a file's name, the fault says how such a file has to
-        be called.
-        """
-        said = "; the name of a formula's file ends in .mcf, or it is - for standard input"
-        names = self.file("all ways", "nu X. <a> X"), "always.txt", "formulas/always", "./always"
-        for formula in (*names, "always.txt ", "<a.b", "a", "mu X.<a>X.", "X && Y"):
-            with self.assertRaises(self.script.Refused) as caught:
-                self.call(self.model, formula)
-            self.assertEqual(said in str(caught.exception), formula in names, formula)
-
     def test_known_models(self):
         rows = scripts.rows_of("known_models.txt")
         self.assertGreater(len(rows), 20)
@@ -400,23 +391,15 @@ class ModelCheck(scripts.Use, unittest.TestCase):
                 # what is true there is true of the evidence, and what is false is false
                 self.check(self.evidence, formula, expected == "true")
 
-    def test_a_game_of_100_000_vertices(self):
-        count, chance = 20_000, random.Random(1)
-        step = lambda: chance.randint(1, 9) ** chance.randint(1, 5)
-        moves = [
-            (state, chance.choice("abc"), (state + step()) % count) for state in range(count) for _ in "12"
-        ]
-        model = Model(0, count, moves)
-        self.model.write_text(model.text)
-        x, y = (Formula(it, lambda _, sets, it=it: sets[it]) for it in "XY")
-        move = lambda is_some, labels, inner: modality(
-            is_some, labelled(" || ".join(labels), NOT, set(labels)), inner
-        )
-        left = joined(move(True, "a", x), "||", move(False, "b", y))
-        body = joined(joined(left, "&&", move(True, "abc", y)), "||", move(False, "c", x))
-        formula = fixed_point("nu", "X", fixed_point("mu", "Y", body))
-        self.check(self.model, formula.text, 0 in formula.holds(model, {}), "--game", self.game)
-        self.assertGreaterEqual(self.game.read_text().count("\n"), 100_000)
+    def test_a_large_model_takes_little_time(self):
+        formula = self.script.Formula("formula", "nu X. [a] X")
+
+        def made(count):
+            moves = [(state, "a", (state + 1) % count) for state in range(count)]
+            product = self.script.Product(self.script.Model("model", Model(0, count, moves).text), formula)
+            self.assertEqual(len(product.moves), 2 * count)
+
+        self.check_growth(made, 5_000)
 
     def test_priorities_by_alternation(self):
         for formula, greatest in {
@@ -453,10 +436,7 @@ class ModelCheck(scripts.Use, unittest.TestCase):
             "6 0 0 0 \"1: <'a'> X\"",
             '7 0 1 7 "1: [!a] false"',
         ]
-        self.assertEqual(
-            self.game.read_text(),
-            "parity 7;\nstart 0;\n" + "".join(f"{it};\n" for it in rows),
-        )
+        self.assertEqual(self.game.read_text(), "parity 7;\nstart 0;\n" + "".join(f"{it};\n" for it in rows))
 
     def test_forms_of_a_model(self):
         for text in (
@@ -519,19 +499,17 @@ class ModelCheck(scripts.Use, unittest.TestCase):
             self.assertEqual(
                 len(self.script.Formula("formula", f" {operator} ".join(["true"] * 1500)).parts), 2999
             )
-        self.model.write_text(
-            Model(0, 9, [(state, "a", state + 1) for state in range(8)]).text
-        )
-        with unittest.mock.patch.object(self.script, "MOST_VERTICES", 18):
+        self.model.write_text(Model(0, 9, [(state, "a", state + 1) for state in range(8)]).text)
+        patch = unittest.mock.patch.object
+        with patch(self.script, "MOST_VERTICES", 18), patch(self.script, "progress") as looks:
             self.check(self.model, "nu X. [a] X", True)
-        with unittest.mock.patch.object(self.script, "MOST_VERTICES", 17):
-            with self.assertRaisesRegex(self.script.Refused, "the game has more than 17 vertices"):
+        self.assertGreater(looks.call_count, 9)
+        with patch(self.script, "MOST_VERTICES", 17):
+            with self.refuses("the game has more than 17 vertices"):
                 self.call(self.model, "nu X. [a] X")
-        self.model.write_text(
-            Model(0, 201, [(state, "a", state + 1) for state in range(200)]).text
-        )
-        with self.assertRaisesRegex(self.script.Refused, "201 vertices are too many"):
-            self.call(self.model, "mu X. [a] X", "--picture", self.folder / "p.dot")
+        with patch(self.script.pictures, "MOST_DRAWN", 8):
+            with self.refuses("9 vertices are too many"):
+                self.call(self.model, "nu X. [a] X", "--picture", self.folder / "p.dot")
 
     def test_evidence_of_one_move(self):
         model = Model(0, 2, [(0, "a", 1), (0, "b", 1)])

@@ -15,8 +15,8 @@ import zipfile
 import build_library
 import common
 import pages
+from common import GAME, SOLUTION
 
-GAME, SOLUTION = b"parity 1;\n0 2 0 0,1;\n1 1 1 1;\n", b"paritysol 1;\n0 0 0;\n1 1 1;\n"
 HEADER = common.text_of("include/pgboard.h")
 EXPORTS = set(re.findall(r"(?m)^(?!static)\w[^;{}()#]*\b(pgboard_\w+)\([^;{]*\);", HEADER))
 WHO = ["-c", "user.name=tests", "-c", "user.email=tests@localhost"]
@@ -52,8 +52,6 @@ def done(*words, **how):
 
 
 class Checkout:
-    """A tree, of which git keeps its commits in another folder."""
-
     def __init__(self, top, git):
         self.top, self.env = top, {**os.environ, "GIT_DIR": str(git), "GIT_WORK_TREE": str(top)}
         self.git("init", "--quiet")
@@ -293,12 +291,6 @@ class Packaged(unittest.TestCase):
             self.assertEqual(page.read_bytes(), (common.ROOT / "packaging/man" / name).read_bytes())
         aliases = {it.stem: it.read_text() for it in (self.unpacked / "share/man/man3").iterdir()}
         self.assertLessEqual(dict.fromkeys(EXPORTS, ".so man3/pgboard.3\n").items(), aliases.items())
-
-    def test_no_link_of_a_page_is_dead(self):
-        for folder in (self.unpacked, self.root / "usr"):
-            found = dict(pages.links(folder / "share/doc/pgboard"))
-            self.assertGreater(len(found), 200)
-            self.assertEqual([it for it, leads in found.items() if not leads], [])
 
     def test_an_example_and_the_command_of_the_folder_run(self):
         doc = self.unpacked / "share/doc/pgboard"

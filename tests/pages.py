@@ -102,7 +102,7 @@ class Examples(unittest.TestCase):
                 self.assertTrue(leads)
 
     def test_each_link_of_a_package_leads_somewhere(self):
-        """In a folder with the pages that ./package copies; package.py looks at what it has made."""
+        """In a folder with the pages that ./package copies; package.py shows that it has them."""
         script, folder = common.load(common.ROOT / "package"), common.make_folder(self)
         for path in (it for pattern in script.PAGES for it in common.ROOT.glob(pattern)):
             script.copy(path, folder / path.relative_to(common.ROOT))
@@ -222,7 +222,7 @@ class HelpAgrees(unittest.TestCase):
     def setUpClass(cls):
         listed = re.search(r"(?ms)^Commands:\n(.*?)\n\n", help_of("--help"))[1]
         cls.commands = set(re.findall(r"(?m)^ {2}([a-z]+)\b", listed)) - {"help"}
-        cls.helps = {name: help_of(*filter(None, [name]), "--help") for name in ["", *sorted(cls.commands)]}
+        cls.helps = {name: help_of(*name.split(), "--help") for name in ["", *sorted(cls.commands)]}
         cls.flags = set(re.findall(FLAG, "".join(cls.helps.values())))
         cls.statuses = statuses_of(cls.helps[""])
 
@@ -232,7 +232,7 @@ class HelpAgrees(unittest.TestCase):
         self.assertEqual([flag for flag, *_ in table], ["--workers N", "--bound N"])
         for name in self.helps:
             with self.subTest(name):
-                short = help_of(*filter(None, [name]), "-h")
+                short = help_of(*name.split(), "-h")
                 said = re.findall(r"(?m)^ +(--\w+) <N> .*?(\d+) to (\d+)\b.* \[default: (\d+)\]$", short)
                 wanted = [it for it in table if it[0] in flags_of(short)]
                 self.assertEqual([(f"{flag} N", *numbers) for flag, *numbers in said], wanted)
@@ -291,7 +291,6 @@ def is_run(page, code):
 
 
 def is_tested(page, block):
-    """Whether a test has a block's code, or another test of this script looks at it."""
     language, code = block.groups()
     if language == "rust":
         return any(is_in(code, it) for it in tests_of((common.ROOT / page).parent.name))

@@ -134,7 +134,6 @@ def faults(game, solution):
 
 
 def verdict(game, solution):
-    """The line that says whether it is a solution."""
     fault = next(faults(game, solution), None)
     return f"not a solution: {fault}\n" if fault else "ok\n"
 
@@ -154,21 +153,20 @@ def region_faults(game, rows, player, lost=frozenset()):
 
 
 def known_faults(game, known):
-    """What is wrong with what is known, in order: Even's set and then Odd's."""
     yield from region_faults(game, known, 0)
     yield from region_faults(game, known, 1, attracted(game, {id for id in known if known[id][0] == 0}, 0))
 
 
-def attracted(game, target, player):
+def attracted(game, target, player, inside=None, choices=None):
+    """The attractor of a target, maybe inside a subgame; `choices` gets those that lead to it."""
+    inside = game.keys() if inside is None else inside
     while True:
-        more = {
-            id
-            for id in game
-            if id not in target
-            and (any if game[id][1] == player else all)(to in target for to in game[id][2])
-        }
+        some = lambda id: any if game[id][1] == player else all
+        more = {id for id in inside - target if some(id)(to in target for to in game[id][2] & inside)}
         if not more:
             return target
+        if choices is not None:
+            choices.update((id, min(game[id][2] & target)) for id in more)
         target = target | more
 
 
@@ -189,77 +187,28 @@ def ladder(levels):
     }
 
 
-def begun(game, vertices):
-    """The player of the greatest priority, and its vertices."""
-    top = max(game[id][0] for id in vertices)
-    return top % 2, {id for id in vertices if game[id][0] == top}
-
-
-class Recursion:
-    """The recursion that keeps what it has won (Lapauw, Bruynooghe and Denecker 2020): the winners, the
-    choices of those who own their vertices, and how many subgames that have a vertex it begins.
-    """
-
-    def __init__(self, game):
-        self.game, self.choices, self.steps = game, {}, 0
-        won = self.solve(set(game))
-        self.winners = {id: player for player in (0, 1) for id in won[player]}
-
-    def attract(self, inside, target, player):
-        """The attractor of the target among these vertices, with the choices that lead to it."""
-        while True:
-            more = {
-                id
-                for id in inside - target
-                if (any if self.game[id][1] == player else all)(
-                    to in target for to in self.game[id][2] & inside
-                )
-            }
-            if not more:
-                return target
-            self.choices.update({id: min(self.game[id][2] & target) for id in more})
-            target = target | more
-
-    def solve(self, active):
-        """What each player wins in a subgame."""
-        won = set(), set()
-        while active:
-            self.steps += 1
-            player, greatest = begun(self.game, active)
-            self.choices.update({id: min(self.game[id][2] & active) for id in greatest})
-            aside = self.attract(active, greatest, player)
-            active, kept = active - aside, set()
-            while greatest:
-                found = self.solve(active)
-                kept = kept | found[player]
-                if not found[1 - player]:
-                    active, kept, greatest = set(), kept | aside, set()
-                else:
-                    lost = self.attract(aside | kept | found[1 - player], found[1 - player], 1 - player)
-                    won[1 - player].update(lost)
-                    aside, kept, greatest, active = self.taken_back(aside, kept - lost, greatest, lost, player)
-            won[player].update(kept)
-        return won
-
-    def taken_back(self, aside, kept, greatest, lost, player):
-        """What is set aside, kept, greatest and active after the opponent has won the lost vertices."""
-        greatest, left = greatest - lost, aside - lost
-        inside = left | kept
-        self.choices.update({id: min(self.game[id][2] & inside) for id in greatest})
-        aside = self.attract(inside, greatest, player) & left
-        active = left - aside
-        changed = active | lost
-        while more := {id for id in kept if self.kept_edges(id, player) & changed}:
-            kept, active, changed = kept - more, active | more, changed | more
-        back = self.attract(active | kept, kept, player)
-        return aside, back, greatest, active - back
-
-    def kept_edges(self, id, player):
-        return {self.choices[id]} if self.game[id][1] == player else self.game[id][2]
+def solved(game, inside=None):
+    """The winner of each vertex of a subgame, and a choice, by the plain recursion (Zielonka 1998)."""
+    inside, rows = set(game) if inside is None else inside, {}
+    while inside:
+        top = max(game[id][0] for id in inside)
+        player, greatest = top % 2, {id for id in inside if game[id][0] == top}
+        choices = {id: min(game[id][2] & inside) for id in greatest}
+        aside = attracted(game, greatest, player, inside, choices)
+        found = solved(game, inside - aside)
+        lost = {id: row for id, row in found.items() if row[0] != player}
+        if not lost:
+            return {**rows, **found, **{id: (player, choices[id]) for id in aside}}
+        choices = {}
+        taken = attracted(game, {*lost}, 1 - player, inside, choices)
+        rows.update(lost)
+        rows.update((id, (1 - player, choice)) for id, choice in choices.items())
+        inside = inside - taken
+    return rows
 
 
 def winners(game):
-    return Recursion(game).winners
+    return {id: winner for id, (winner, _) in solved(game).items()}
 
 
 def lines_of_rows(head, rows):
@@ -334,11 +283,7 @@ def numbers(line):
 
 
 def trace_fault(game, workers, text):
-    """What is wrong with a trace of the game by so many workers, or None.
-
-    The entries have to give each vertex once, and together a solution. The report has to have a row for each
-    job, and its columns have to agree with the entries.
-    """
+    """What is wrong with a trace of the game by so many workers, or None."""
     try:
         demand(TRACE.fullmatch(text.decode()), "it does not have the form of a trace")
         journal, report = text.decode().split("report ")

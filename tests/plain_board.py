@@ -1,7 +1,7 @@
 """A board by its definitions, as plainly as can be: slow, for small games alone. A game is one of plain.py.
 
-Nothing of it is taken from pgboard: tests compare the two. What a board may choose, it does not choose:
-`entry_fault` says whether an entry answers a claim, and `add` takes it over.
+What a board may choose, it does not choose: `entry_fault` says whether an entry answers a claim, and `add`
+takes it over.
 """
 
 import plain

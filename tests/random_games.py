@@ -6,7 +6,6 @@ The same seed gives the same games.
 
 import argparse
 import concurrent.futures
-import itertools
 import pathlib
 import random
 import re
@@ -19,23 +18,7 @@ import plain
 
 COMPARATOR = common.ROOT / "bench" / "out" / "comparator"
 BLANKS = [b" ", b"\n", b"\t", b"\r\n", b"  ", b" \n "]
-PIECES = [
-    b"0",
-    b"1",
-    b"9",
-    b"00",
-    b",",
-    b";",
-    b" ",
-    b'"',
-    b"-",
-    b"parity",
-    b"start",
-    b"paritysol",
-    b"x",
-    b"2147483648",
-]
-PIECES += [b"\xff", b"%", b"\n"]
+PIECES = [*b'0 1 9 00 , ; " - parity start paritysol x 2147483648 \xff %'.split(), b" ", b"\n"]
 SOLVES = [
     "",
     "--workers 1 --bound 0",
@@ -67,11 +50,8 @@ def blank(chance, needed=False):
 
 
 def header(chance, word, likely):
-    return (
-        b"".join([word, blank(chance), number(chance, chance.randrange(99)), b";", blank(chance)])
-        if chance.random() < likely
-        else b""
-    )
+    parts = [word, blank(chance), number(chance, chance.randrange(99)), b";", blank(chance)]
+    return b"".join(parts) if chance.random() < likely else b""
 
 
 def straight_game_text(chance, game):
@@ -150,13 +130,8 @@ def with_a_fault(chance, game, known):
         return known
     id = chance.choice(list(known))
     winner, choice = known[id]
-    rows = (
-        (1 - winner, choice),
-        (winner, None),
-        (winner, chance.choice(list(game[id][2]))),
-        (winner, chance.choice(list(game))),
-    )
-    return {**known, id: chance.choice(rows)}
+    choices = None, chance.choice(list(game[id][2])), chance.choice(list(game))
+    return {**known, id: chance.choice([(1 - winner, choice), *((winner, it) for it in choices)])}
 
 
 # --- the checks of a game: each returns what is wrong, or None ---
@@ -197,15 +172,8 @@ class Checks:
 
     def solve_from(self, text):
         (self.folder / "part.sol").write_bytes(text)
-        words = [
-            "solve",
-            "--known",
-            "part.sol",
-            "--workers",
-            self.chance.choice("1234"),
-            "--bound",
-            self.chance.choice("048"),
-        ]
+        words = ["solve", "--known", "part.sol"]
+        words += ["--workers", self.chance.choice("1234"), "--bound", self.chance.choice("048")]
         got = self.run(words, self.text)
         try:
             known = plain.known_of(self.game, text)
@@ -219,23 +187,9 @@ class Checks:
         if why:
             return f"from {text}: {got}, {why}"
         solution = plain.solution_of(self.game, got[1])
-        wanted = {
-            id: (winner, choice if self.game[id][1] == winner else None)
-            for id, (winner, choice) in known.items()
-        }
+        owned = lambda id, winner, choice: (winner, choice if self.game[id][1] == winner else None)
+        wanted = {id: owned(id, *row) for id, row in known.items()}
         return None if wanted.items() <= solution.items() else f"from {text} it has {solution}"
-
-    def solve_from_each_part(self, solution):
-        """Each part of a player's winning region is taken exactly where it is a region."""
-        for player in (0, 1):
-            region = [id for id in self.game if solution[id][0] == player]
-            parts = (
-                ids for count in range(1, len(region) + 1) for ids in itertools.combinations(region, count)
-            )
-            yield from (
-                self.solve_from(random_solution_text(self.chance, {id: solution[id] for id in ids}))
-                for ids in parts
-            )
 
     def trace(self, game, text):
         workers = self.chance.choice([1, 2, 4, 64])
@@ -245,8 +199,7 @@ class Checks:
 
     def all(self):
         chance, game = self.chance, self.game
-        run = plain.Recursion(game)
-        right, other = {id: (run.winners[id], run.choices.get(id)) for id in game}, random_solution(chance, game)
+        right, other = plain.solved(game), random_solution(chance, game)
         part = some_of(chance, right)
         wrong = random_solution_text(chance, with_a_fault(chance, game, part))
         yield "the plain recursion", None if plain.verdict(game, right) == "ok\n" else f"{right} of {game}"
@@ -264,10 +217,6 @@ class Checks:
             random_solution_text(chance, some_of(chance, other))
         )
         yield "solve from a damaged text", self.solve_from(damaged(chance, wrong))
-        if chance.random() < 0.03:
-            yield "solve from each part of a region", next(
-                filter(None, self.solve_from_each_part(right)), None
-            )
         yield "trace", self.trace(game, self.text)
         if chance.random() < 0.02:
             # of more than one batch of vertices
@@ -311,12 +260,8 @@ class RandomGames(unittest.TestCase):
     @common.needs_speed
     def test_each_of_4095_jobs_is_done(self):
         """The search of each batch finds a dominion of its player, and the recursion solves the rest."""
-        game, found = plain.written_game(small_dominions(130_944)).encode(), [
-            (0, 0),
-            (0, 0),
-            *[(1, 4)] * 4_092,
-            (2, 130_944 - 4 * 4_092),
-        ]
+        game, rest = plain.written_game(small_dominions(130_944)).encode(), 130_944 - 4 * 4_092
+        found = [(0, 0), (0, 0), *[(1, 4)] * 4_092, (2, rest)]
         wanted = [f"job {job} 1 {posted} {settled} 0 0 0 0" for job, (posted, settled) in enumerate(found)]
         out = common.program("trace", "--workers", "1", given=game)[1].decode()
         self.assertEqual(re.findall("(?m)^job .*$", out), wanted)
@@ -328,11 +273,6 @@ class RandomGames(unittest.TestCase):
             with self.subTest(workers=workers):
                 self.assertNotRegex(self.check_trace(game, workers), rb"(?m)^job .* 1 .$")
 
-    def test_a_trace_by_each_number_of_workers(self):
-        for workers in range(1, 65):
-            with self.subTest(workers=workers):
-                self.check_trace(small_dominions(400), workers)
-
     def test_a_written_solution_that_is_wrong_is_refused(self):
         game = {3: (2, 0, {3, 9}), 9: (1, 1, {9}), 12: (0, 1, {3})}
         text = b"paritysol 12;\n3 0 3;\n9 1 9;\n12 0;\n"
@@ -342,11 +282,6 @@ class RandomGames(unittest.TestCase):
         self.assertIsNotNone(plain.written_fault(game, text.replace(b"12 0;", b"12 0 3;")))
         chain = {v: (0, 0, {max(v - 1, 0)}) for v in range(7)}
         self.assertEqual(plain.attracted(chain, {0}, 0), {*chain})
-
-    def test_the_steps_that_a_unit_test_counts(self):
-        text = common.text_of("crates/pg_finders_tests/src/tests/finders/bounds.rt")
-        steps = re.search(r"fn a_ladder_of_four_levels_needs_(\d+)_steps", text)[1]
-        self.assertEqual(plain.Recursion(plain.ladder(4)).steps, int(steps))
 
     def test_a_damaged_trace_is_refused(self):
         game = plain.game_of(b"0 2 0 0,1; 1 1 1 1;")

@@ -9,6 +9,8 @@ import unittest
 import common
 import plain
 import random_games
+from common import NO_MEMORY, READ_FAULT
+from common import SOLUTION as HOLDS
 
 CONTINENTS = b'parity 4; 0 6 1 4,2 "Africa"; 4 5 1 0 "Antarctica"; 1 8 1 2,4,3 "America"; '
 CONTINENTS += b'3 6 0 4,2 "Australia"; 2 7 0 3,1,0,4 "Asia";'
@@ -23,10 +25,7 @@ TWO_SIDED = b"".join(
     PART % tuple(v + it for it in (0, 1, 1, 2, 3, 2, 0, 3, 3, 1, 2)) for v in range(0, 400, 4)
 )
 GAMES = [CONTINENTS, ONE_EACH, LAYERS, GAPS, b"parity 5;start 77;00 07 01 0,00;"]
-HOLDS = b"paritysol 1;\n0 0 0;\n1 1 1;\n"
-JOINED = b"parity 1;\n0 2 0 0,1;\n1 1 1 1;\n%" + HOLDS
-NO_MEMORY = (5, b"", b"pgboard: no memory\n")
-READ_FAULT = (4, b"", b"pgboard: read fault\n")
+JOINED = common.GAME + b"%" + HOLDS
 # no worker could be started: the calling thread settles all
 REPORT = b"".join(b"job %d - 0 0 0 0 0 0\n" % job for job in range(5)) + b"total 0 0 0 0\n"
 NOBODY = b"journal 2 2\nentry 0 0 0 1 1\n0 0;\nentry 1 0 1 1 1\n1 1;\nreport 5\n" + REPORT
@@ -71,18 +70,8 @@ RUNS = [
     ("solve --winners", CONTINENTS, 0),
     ("solve --bound 0 --workers 1", CONTINENTS, 0),
     *((words, b"", 0) for words in ("--version", "--help", "-h", "solve --help", "help verify")),
-    *(
-        (words, b"", 2)
-        for words in (
-            "x",
-            "tidy --x",
-            "tidy a b",
-            "verify a",
-            "solve --workers 0",
-            "solve --bound 9",
-            "trace --workers x",
-        )
-    ),
+    *((words, b"", 2) for words in ("x", "tidy --x", "tidy a b", "verify a", "trace --workers x")),
+    *((f"solve {words}", b"", 2) for words in ("--workers 0", "--bound 9")),
 ]
 
 
@@ -92,34 +81,18 @@ class Refusing(unittest.TestCase):
         cls.folder, cls.numbers = common.make_folder(cls), itertools.count()
         for name, text in FILES.items():
             (cls.folder / name).write_bytes(text)
-        built = common.run(
-            [
-                "cc",
-                "-O1",
-                "-shared",
-                "-fPIC",
-                "-o",
-                cls.folder / "refuse.so",
-                common.ROOT / "tests" / "refuse.c",
-                "-ldl",
-            ]
-        )
+        words = ["cc", "-O1", "-shared", "-fPIC", "-o", cls.folder / "refuse.so", "-ldl"]
+        built = common.run([*words, common.ROOT / "tests" / "refuse.c"])
         assert built[0] == 0, built
 
     def counted(self, words, given=b"", path=None, **refused):
         """Status, standard output and standard error, and the six numbers of refuse.c."""
         counts = self.folder / f"counts {next(self.numbers)}"
-        env = {
-            "LD_PRELOAD": self.folder / "refuse.so",
-            "COUNTS": counts,
-            **{name: str(n) for name, n in refused.items()},
-        }
+        env = {"LD_PRELOAD": self.folder / "refuse.so", "COUNTS": counts}
+        env.update((name, str(n)) for name, n in refused.items())
         ran = common.run([path or common.PROGRAM, *words], given, cwd=self.folder, env=env)
         # (a program that a signal ends leaves no counts)
-        return (
-            ran,
-            [int(it) for it in counts.read_text().split()] if counts.exists() else [0] * 6,
-        )
+        return ran, [int(it) for it in counts.read_text().split()] if counts.exists() else [0] * 6
 
     def each(self, kind, numbers, words, given=b"", path=None, **more):
         """The number and the answer of each refusal; a run that asked less often was refused nothing."""
@@ -133,13 +106,8 @@ class Refusing(unittest.TestCase):
 @common.needs_speed
 class Program(Refusing):
     def is_right(self, words, given, whole, got):
-        if (
-            got == whole
-            or got[2]
-            or got[0]
-            or words[:1] not in (["solve"], ["trace"])
-            or "--winners" in words
-        ):
+        may_differ = words[:1] in (["solve"], ["trace"]) and "--winners" not in words
+        if got == whole or not may_differ or got[0] or got[2]:
             return got == whole
         game = plain.game_of(given)
         if words[0] == "solve":
@@ -179,33 +147,20 @@ class Program(Refusing):
         self.assertIn((0, NOBODY, b""), [got for _, got in answers])
 
     def test_the_workers_that_start_do_all_jobs(self):
+        """A start that is refused ends no other. The workers keep their numbers."""
         game = plain.game_of(TWO_SIDED)
         for workers, more in itertools.product((2, 4), ({}, {"REFUSE_FROM": 1})):
-            for n, got in self.each(
-                "REFUSE_THREAD",
-                range(1, workers + 1),
-                ["trace", "--workers", str(workers)],
-                TWO_SIDED,
-                **more,
-            ):
+            words = ["trace", "--workers", str(workers)]
+            for n in range(1, workers + 1):
                 with self.subTest(workers=workers, start=n, **more):
-                    self.assertEqual(
-                        (got[0], got[2], plain.trace_fault(game, workers, got[1])), (0, b"", None)
-                    )
-                    # the workers keep their numbers; the one that did not start has no job
-                    out = range(n, workers + 1) if more else [n]
-                    drawers = {
-                        line.split()[2] for line in got[1].decode().splitlines() if line.startswith("job ")
-                    }
-                    self.assertFalse(drawers & {str(it) for it in out}, got)
+                    got, (_, starts, *_) = self.counted(words, TWO_SIDED, REFUSE_THREAD=n, **more)
+                    said = got[0], got[2], plain.trace_fault(game, workers, got[1])
+                    self.assertEqual((*said, starts), (0, b"", None, workers))
+                    # the one that did not start has no job
+                    out = [*range(n, workers + 1)] if more else [n]
+                    drawers = {*re.findall(r"(?m)^job \d+ (\S+)", got[1].decode())}
+                    self.assertFalse(drawers & {*map(str, out)}, got)
                     self.assertEqual("-" in drawers, len(out) == workers, got)
-
-    def test_a_start_that_is_refused_ends_no_other(self):
-        for n in range(1, 5):
-            with self.subTest(start=n):
-                self.assertEqual(
-                    self.counted(["solve", "--workers", "4"], TWO_SIDED, REFUSE_THREAD=n)[1][1], 4
-                )
 
     def test_each_worker_is_started_whatever_the_game(self):
         for game, workers in itertools.product((*GAMES, TWO_CYCLE, TWO_SIDED), (1, 2, 64)):

@@ -11,6 +11,7 @@ import shlex
 import signal
 import sys
 import time
+import unittest.mock
 
 import common
 import plain
@@ -50,7 +51,6 @@ def rows_of(name):
 
 
 def bytes_of(text):
-    """The bytes of a row's text, with what its words in capitals stand for."""
     for word, meant in {"THE_HEAD": HEAD, "THE_BODY": BODY, "ZEROS": "0" * 4400}.items():
         text = text.replace(word, meant)
     return text.encode().decode("unicode_escape").encode("latin-1")
@@ -66,17 +66,10 @@ def called(script, words, given=b""):
     start.
     """
     os.environ["PGBOARD"] = shlex.quote(str(common.PROGRAM))
-    out, err, before = (
-        io.TextIOWrapper(io.BytesIO(), "utf-8", "surrogateescape", newline=""),
-        io.StringIO(),
-        sys.stdin,
-    )
-    sys.stdin = io.TextIOWrapper(io.BytesIO(given))
-    try:
-        with contextlib.redirect_stdout(out), contextlib.redirect_stderr(err):
-            status = script.main([str(it) for it in words]) or 0
-    finally:
-        sys.stdin = before
+    out, err = io.TextIOWrapper(io.BytesIO(), "utf-8", "surrogateescape", newline=""), io.StringIO()
+    stdin = unittest.mock.patch("sys.stdin", io.TextIOWrapper(io.BytesIO(given)))
+    with stdin, contextlib.redirect_stdout(out), contextlib.redirect_stderr(err):
+        status = script.main([str(it) for it in words]) or 0
     out.flush()
     return status, out.buffer.getvalue().decode("utf-8", "replace"), err.getvalue()
 
@@ -103,6 +96,9 @@ class Use:
     def call(self, *words, given=b""):
         return called(self.script, [*self.first, *words], given)[:2]
 
+    def refuses(self, said):
+        return self.assertRaisesRegex(self.script.Refused, said)
+
     def run_script(self, *words, given=b"", **env):
         env = {**os.environ, "PGBOARD": shlex.quote(str(common.PROGRAM)), **env}
         words = [*command_of(self.name), *words]
@@ -119,7 +115,6 @@ class Use:
         self.assertLess(took, 10 * before)
 
     def check_damaged(self, call, text):
-        """That the script answers or refuses what a damaged text has, and fails in no other way."""
         refused = 0
         for seed in range(200):
             given = random_games.damaged(random.Random(seed), text.encode())
@@ -132,7 +127,6 @@ class Use:
         self.assertGreater(refused, 40)
 
     def check_benchmark(self, size):
-        """That bench/ gets a game of about so many vertices, in which each player wins some."""
         name = f"{self.name}_{size}"
         got = common.run(
             [sys.executable, "-B", common.ROOT / "bench" / "uses.py", self.folder, name], timeout=600

@@ -29,7 +29,6 @@ class Theorem(unittest.TestCase):
             self.assertNotRegex(theorem.Pieces.LINE.sub("", said), "`[^`]* [^`]*`", sentence)
 
     def test_the_headline(self):
-        """README says it too, and each part of it has a row on THEOREM.md."""
         (said,) = re.findall(r"(?m)^\*\*(Whenever .*)\*\*$", THEOREM)
         self.assertIn(f"**{said}**", common.text_of("README.md"))
         board = THEOREM.split("\n## Board\n")[1].split("\n## ")[0]

@@ -88,18 +88,18 @@ class Convert(Use, unittest.TestCase):
     def test_the_most_vertices_and_edges(self):
         automaton = common.text_of("examples/synthesise/arbiter_2_at_once.hoa")
         game = scripts.HOA_GAME + "State: 0 [t] 0 {0} [t] 0\n--END--\n"
-        for text, vertices, edges in (("0 8 0 0,1; 1 8 0 1;", 2, 3), (automaton, 5, 6), (game, 3, 4)):
-            with unittest.mock.patch.multiple(games, MOST_VERTICES=vertices, MOST_EDGES=edges):
-                self.assertEqual(self.converted([], text)[0], 0)
-            with unittest.mock.patch.object(games, "MOST_VERTICES", vertices - 1):
-                with self.assertRaisesRegex(self.script.Refused, f"more than {vertices - 1} vertices"):
-                    self.converted([], text)
-            with unittest.mock.patch.object(games, "MOST_EDGES", edges - 1):
-                with self.assertRaisesRegex(self.script.Refused, f"or {edges - 1} edges"):
-                    self.converted([], text)
+        for text, *sizes in (("0 8 0 0,1; 1 8 0 1;", 2, 3), (automaton, 5, 6), (game, 3, 4)):
+            for few, most in ((0, 0), (1, 0), (0, 1)):
+                vertices, edges = sizes[0] - few, sizes[1] - most
+                with unittest.mock.patch.multiple(games, MOST_VERTICES=vertices, MOST_EDGES=edges):
+                    if few or most:
+                        with self.refuses(f"more than {vertices} vertices or {edges} edges"):
+                            self.converted([], text)
+                    else:
+                        self.assertEqual(self.converted([], text)[0], 0)
         with unittest.mock.patch.object(games, "MOST_VERTICES", 2):
             for text in ("0 0; 1 0; 2 0;", "won by odd: 0 1 2"):
-                with self.assertRaisesRegex(self.script.Refused, "more than 2 vertices"):
+                with self.refuses("more than 2 vertices"):
                     self.converted(["--solution"], text)
 
     def test_the_most_bytes(self):
@@ -111,8 +111,7 @@ class Convert(Use, unittest.TestCase):
                     self.assertEqual(self.converted([], packed), (0, ONE, ""))
                     continue
                 tracemalloc.start()
-                self.addCleanup(tracemalloc.stop)
-                with self.assertRaisesRegex(self.script.Refused, "^standard input: .* more than 10,000 b"):
+                with self.refuses("^standard input: .* more than 10,000 b"):
                     self.converted([], packed)
                 peak = tracemalloc.get_traced_memory()[1]
                 tracemalloc.stop()
@@ -120,28 +119,22 @@ class Convert(Use, unittest.TestCase):
 
     def test_what_takes_little_time(self):
         def unpack(count):
-            parts = (
-                gzip.compress(f'{v} 0 0 {v} "{random.Random(v).randbytes(300).hex()}";\n'.encode(), 1)
-                for v in range(count)
-            )
-            self.assertEqual(self.script.text_of(self.file("parts", b"".join(parts))).count(";"), count)
+            row = lambda v: f'{v} 0 0 {v} "{random.Random(v).randbytes(300).hex()}";\n'.encode()
+            parts = b"".join(gzip.compress(row(v), 1) for v in range(count))
+            self.assertEqual(self.script.text_of(self.file("parts", parts)).count(";"), count)
+
+        def convert(count):
+            game = "".join(f"{v} {v % 9} {v % 2} {v * v % count},{v}{end}" for v in range(count))
+            self.assertEqual(self.converted(flags, game)[1].count("\n"), count + 1)
 
         self.check_growth(unpack, 1_000)
-        size = 100_000
         for flags, end in (([], ";\n"), (["--min"], ' "a state of it";\n')):
-            game, begun = (
-                "".join(f"{v} {v % 9} {v % 2} {v * v % size},{v}{end}" for v in range(size)),
-                time.process_time(),
-            )
-            self.assertEqual(self.converted(flags, game)[1].count("\n"), size + 1)
-            self.assertLess(time.process_time() - begun, 20)
+            self.check_growth(convert, 4_000)
 
     def test_a_text_of_one_byte(self):
         """Each reader takes it in little time, or refuses it, for each byte that its texts have."""
 
-        def late(*_):
-            raise AssertionError("it takes too long")
-
+        late = unittest.mock.Mock(side_effect=AssertionError("it takes too long"))
         self.addCleanup(signal.signal, signal.SIGVTALRM, signal.signal(signal.SIGVTALRM, late))
         check, file = common.load(EXAMPLES / "modelcheck.py"), self.folder / "text"
         model = self.file("model", MODEL)
@@ -205,9 +198,7 @@ class Convert(Use, unittest.TestCase):
                 if text.rstrip().endswith(";"):
                     self.assertEqual(self.converted(["--solution"], text)[::2], (0, ""))
                     continue
-                with self.assertRaisesRegex(
-                    self.script.Refused, f"^standard input:{len(text.splitlines())}:[0-9]+: expected "
-                ):
+                with self.refuses(f"^standard input:{len(text.splitlines())}:[0-9]+: expected "):
                     self.converted(["--solution"], text)
 
 
@@ -272,7 +263,6 @@ class Draw(Use, unittest.TestCase):
                     self.assertIn(f'label={label}<font point-size="9">id ', out)
 
     def check_drawn(self, text, game, solution):
-        """That a picture is the game's, with what the solution says of some vertices."""
         winner = lambda id: solution.get(id, (None,))[0]
         chosen = lambda id, to: winner(id) == game[id][1] and solution[id][1] == to
         looks = {id: (winner(id), ["dashed"] * (winner(id) is None)) for id in game}
@@ -280,7 +270,6 @@ class Draw(Use, unittest.TestCase):
         self.assertEqual(drawn(text, game), (looks, edges))
 
     def test_random_games_read_back(self):
-        """The loser's choices are not bold; a part of a solution leaves vertices white, or choices out."""
         for chance in map(random.Random, range(150)):
             game = random_games.random_game(chance)
             rows = lambda id: (chance.randrange(2), chance.choice([*sorted(game[id][2]), None]))
@@ -317,14 +306,12 @@ class Draw(Use, unittest.TestCase):
         self.assertEqual((numbers["edges"], numbers["own loops"]), (1, 0))
         self.assertEqual(numbers["greatest degrees"], {"out": 1, "in": 1})
         self.assertEqual(numbers["priorities"], {"least": 4, "greatest": 4, "different": 1})
-        dead = scripts.called(self.script, ["stats", "--dead-ends", self.file("dead.pg", "0 1 0;")])[1]
-        self.assertIn("\ngreatest degrees: out 0, in 0\n", dead)
 
     def test_a_picture_has_at_most_200_vertices(self):
         game = lambda count: self.file(f"{count}.pg", "".join(f"{v} 0 0 {v};\n" for v in range(count)))
         self.assertEqual(self.call(game(200))[0], 0)
         text = pathlib.Path(game(201)).read_bytes()
-        with self.assertRaisesRegex(self.script.Refused, "^standard input: 201 vertices are too many"):
+        with self.refuses("^standard input: 201 vertices are too many"):
             self.call(given=text)
 
     @common.needs("dot")
@@ -386,9 +373,6 @@ class Explain(Use, unittest.TestCase):
         return facts, [(id, to) for to in sorted(game[id][2])]
 
     def check_drawn(self, text, game, solution, red):
-        """That a picture has these edges in red, all vertices next to theirs, and the first edge's vertex
-        marked.
-        """
         core = {it for edge in red for it in edge}
         near = core | {id for id in game if core & game[id][2]} | {to for id in core for to in game[id][2]}
         looks = {id: (solution[id][0], ["red"] * (id == red[0][0])) for id in near}
@@ -437,7 +421,7 @@ class Explain(Use, unittest.TestCase):
         vertices, edges = graph_of(picture.read_text())
         self.assertEqual((len(vertices), "red" in edges["0", "0"]), (200, True))
         ring = [(v, (v + 1) % 201) for v in range(201)]
-        with self.assertRaisesRegex(self.script.Refused, "picture.dot: 201 vertices are too many"):
+        with self.refuses("picture.dot: 201 vertices are too many"):
             texts = "".join(f"{v} 1 0 {to};" for v, to in ring), "".join(f"{v} 0 {to};" for v, to in ring)
             self.said(*texts, "--picture", picture)
 
@@ -491,18 +475,9 @@ class Explain(Use, unittest.TestCase):
             self.assertIn(f"<- the {'least' if least else 'greatest'}, and Odd's", out)
 
     def test_damaged_texts(self):
-        game, solution = (
-            self.file(it, common.text_of("examples", it))
-            for it in ("five_continents.pg", "five_continents.wrong")
-        )
-        self.check_damaged(
-            lambda it: self.call(self.file("damaged", it), solution),
-            pathlib.Path(game).read_text(),
-        )
-        self.check_damaged(
-            lambda it: self.call(game, self.file("damaged", it)),
-            pathlib.Path(solution).read_text(),
-        )
+        game, solution = (EXAMPLES / f"five_continents.{it}" for it in ("pg", "wrong"))
+        self.check_damaged(lambda it: self.call(self.file("damaged", it), solution), game.read_text())
+        self.check_damaged(lambda it: self.call(game, self.file("damaged", it)), solution.read_text())
 
 
 # --- winner ---
@@ -529,9 +504,6 @@ class Winner(Use, unittest.TestCase):
         return edges
 
     def test_random_games(self):
-        """The winner is the definition's, and wins the part from each of its vertices, where only the other
-        one has choices.
-        """
         statuses, part, picture = [], self.folder / "part.pg", self.folder / "part.dot"
         for chance in map(random.Random, range(150)):
             game = random_games.random_game(chance, 6)
@@ -557,17 +529,9 @@ class Winner(Use, unittest.TestCase):
                     self.assertEqual(drawn(picture.read_text(), game), (looks, bold))
         self.assertGreater(min(statuses.count(0), statuses.count(1)), 80)
 
-    def test_names_stay(self):
-        part, path = self.folder / "part.pg", self.file(
-            "game.pg", '0 1 0 1 "a b"; 1 2 1 1 "\u00e9"; 2 0 0 2;'
-        )
-        self.assertEqual(self.call(path, "--vertex", 0, "--game", part), (0, "Even wins vertex 0\n"))
-        self.assertEqual(
-            part.read_text(), 'parity 1;\nstart 0;\n0 1 0 1 "a b";\n1 2 1 1 "\u00e9";\n'
-        )
-
 
 # --- solve, verify and stats ---
+
 
 class Solve(Use, unittest.TestCase):
     """Over the program, and in bindings/python/test_command.py over the library, which tells its entries."""
@@ -578,9 +542,6 @@ class Solve(Use, unittest.TestCase):
         return scripts.called(self.script, words)[:2]
 
     def test_random_games(self):
-        """The solution holds, and a damaged one has its verdict; of a part that does not hold the first fault
-        is named, with its line.
-        """
         kinds = set()
         for seed in range(200):
             chance = random.Random(seed)
@@ -691,7 +652,6 @@ class Program(unittest.TestCase):
         common.write_program(self.top / path, text)
 
     def winner(self, **env):
-        """Status, output and error of the command, and the programs that it ran, each with its first word."""
         (self.top / "log").write_text("")
         words = ["bindings/python/pgboard", "winner", "--vertex", "0", EXAMPLES / "both_win.pg"]
         env = {"PATH": f"{self.top}/path:/bin", **env}
@@ -725,15 +685,6 @@ class Program(unittest.TestCase):
         self.assertEqual((status, out, ran), (4, "", []), "a library that is named is not passed over")
         self.assertTrue(err.startswith("pgboard: its library can't be loaded (/nowhere.so: "), err)
 
-    def test_the_scripts_without_the_package(self):
-        shutil.copytree(
-            EXAMPLES, self.top / "other" / "examples", ignore=shutil.ignore_patterns("__pycache__")
-        )
-        status, out, err = common.run(
-            [sys.executable, "-B", self.top / "other" / "examples" / "modelcheck.py"]
-        )
-        self.assertEqual((status, out, err[:41]), (4, b"", b"the Python package pgboard is not here: i"))
-
 
 class Refused(Use, unittest.TestCase):
     """What is refused, of a game's or a solution's text with the place: the whole of standard error, and the
@@ -761,7 +712,9 @@ class Refused(Use, unittest.TestCase):
                 self.assertEqual(out, "")
                 if re.search(":[0-9]+:[0-9]+$", place):
                     path, row, column = place.rsplit(":", 2)
-                    marked = self.marked(int(row), int(column), path_text(path, file, text))
+                    is_given = path in (file, "standard input", "formula")
+                    whole = given.decode("utf-8", "surrogateescape") if is_given else common.text_of(path)
+                    marked = self.marked(int(row), int(column), whole)
                     self.assertEqual((status, lines), (3, [f"{place}: {said}", *marked]))
                 elif lines[0].startswith("usage: "):
                     self.assertEqual(status, 2)
@@ -787,12 +740,6 @@ class Refused(Use, unittest.TestCase):
             "".join(map(spelled, it)) for it in (line[: column - 1][-40:], line[column - 1 :][:60])
         )
         return [f"  {before}{after}".rstrip(), " " * (2 + len(before)) + "^"]
-
-
-def path_text(path, file, text):
-    if path in (file, "standard input", "formula"):
-        return text.encode("latin-1").decode("utf-8", "surrogateescape")
-    return common.text_of(path)
 
 
 # --- how the command and the scripts end ---
@@ -821,7 +768,7 @@ with command.undone(lambda: begin("first"), end):
 
 
 class Ends(unittest.TestCase):
-    """Statuses, full devices and signals. What ends a command stands once, so most rows are of one word."""
+    """What ends a command stands once, so most rows are of one word."""
 
     def setUp(self):
         self.folder = common.make_folder(self)

@@ -127,8 +127,6 @@ class Boards(Tests):
         claim = [array("I", [1]), array("I", [1])]
 
         class Late:
-            """Another thread changes what is given before the library reads it."""
-
             def __getattr__(self, name):
                 for it in (*game, *claim, *solution):
                     it[0] = it[-1] = 9

@@ -25,8 +25,7 @@ ENDLESS = test_pgboard.lists_of(test_pgboard.plain.ladder(40))
 TAKEN, take = [], pgboard.library.Handle.advance
 def counted(self, steps):
     TAKEN.append(threading.get_ident())
-    return take(self, min(steps, counted.most))
-counted.most = 0
+    return take(self, 0)
 pgboard.library.Handle.advance = counted
 def wait_for(holds):
     ends = time.monotonic() + 40
@@ -42,7 +41,6 @@ def interrupt():
         os.kill(os.getpid(), signal.SIGINT)
     threading.Thread(target=later).start()
 """
-# an interrupt ends each call that may take long, and what a bound or a timeout ends can go on
 INTERRUPTED = """row = '{} {} {} {};'.format
 lines = enumerate(zip(*ENDLESS))
 text = ''.join(row(v, p, o, ','.join(map(str, to))) for v, (o, p, to) in lines)
@@ -57,12 +55,6 @@ for call in (lambda: pgboard.solve(*ENDLESS), lambda: pgboard.solve_text(text), 
             late.append(time.monotonic() - interrupt.sent)
             print(late[-1] < 10, wait_for(lambda: threading.active_count() == 1))
     print(min(late) < 1)
-for limits in ({'timeout': 0.2}, {'steps': 10}):
-    try:
-        counted.most = limits.get('steps', 0)
-        board.finish(**limits)
-    except (pgboard.GaveUp, pgboard.TimedOut) as error:
-        print(error, len(board.unsettled()) + board.settled == len(ENDLESS[0]))
 """
 # the calls make no child and no thread, and send no signal
 ALONE = """def refuse(*_, **__):
@@ -98,9 +90,7 @@ class Calls(Tests):
 
     def test_an_interrupt_ends_a_long_call(self):
         # (other work on the machine may take a second once, and not four times)
-        gave_up, timed_out = f"{pgboard.GaveUp()} True\n", f"{pgboard.TimedOut()} True\n"
-        wanted = ("True True\n" * 4 + "True\n") * 3 + timed_out + gave_up
-        self.assertEqual(self.run_of(INTERRUPTED), wanted)
+        self.assertEqual(self.run_of(INTERRUPTED), ("True True\n" * 4 + "True\n") * 3)
 
     def test_no_child_is_made_and_no_signal_is_sent(self):
         self.assertEqual(self.run_of(ALONE), "1 1\nnone\n")
@@ -157,8 +147,6 @@ class Calls(Tests):
 
 
 class Boards(Tests):
-    """Of a game that is not small, a board lasts for the call."""
-
     def test_what_holds_never_leads_to_the_call_that_cannot_be_ended(self):
         # (no choice of a loser, as of vertex 2, is read)
         game, wanted = ([0, 1, 1], [2, 1, 1], [[0, 1], [1], [0]]), ([0, 1, 0], [0, 1, None])

@@ -97,7 +97,6 @@ class Command(uses.Solve):
             self.assertEqual(self.texts_of(endless(*words)), (winner, f"paritysol {vertex};\n{row};\n", ""))
 
     def test_progress_on_a_terminal(self):
-        """A line says how many vertices are settled, of how many, and for how long; it is gone at the end."""
         game, easy = self.hard()
         path = self.file("game.pg", plain.written_game(game))
         ran, said = common.at_terminal(endless("solve", "--timeout", "2", path))
@@ -124,7 +123,7 @@ class Command(uses.Solve):
         fault = unittest.mock.Mock(side_effect=pgboard.Leaves(0, 1))
         for text, call in (("0 0 0 0,1; 1 1 1 1;", "verify_text"), ("0 0 0 0,1; 1 1 1 1; # a", "verify_csr")):
             with unittest.mock.patch.object(pgboard.calls, call, fault):
-                with self.assertRaisesRegex(self.script.Refused, "^what pgboard solved was refused: 0 leaves to 1$"):
+                with self.refuses("^what pgboard solved was refused: 0 leaves to 1$"):
                     self.call(self.file("game.pg", text))
 
     def test_an_interrupt(self):

@@ -148,8 +148,6 @@ class Finishing(Tests):
         lock_of, may = threading.RLock, threading.Event()
 
         class Lock:
-            """A lock that other threads do not get before they may."""
-
             def __init__(self):
                 self.lock, self.thread = lock_of(), threading.get_ident()
 

@@ -77,7 +77,6 @@ class Tests(unittest.TestCase):
         self.assertEqual((found.exception.at, found.exception.to), (at, to))
 
     def begun(self, call):
-        """A thread that makes a call, and what it raises."""
         raised = []
 
         def run():
@@ -91,7 +90,6 @@ class Tests(unittest.TestCase):
         return thread, raised
 
     def says(self, said, call, *arguments, error=TypeError, **named):
-        """A call raises an error whose whole text is this regular expression."""
         with self.subTest(said), self.assertRaisesRegex(error, f"^{said}$"):
             call(*arguments, **named)
 
@@ -230,7 +228,6 @@ class Buffers(Tests):
             self.assertEqual(found, (array("B", [1] * size), array("I", [size - 1] * size)))
 
     def test_refuses_numbers_out_of_range(self):
-        """In lists and in buffers of each size, by one ValueError with name and place."""
         for place, name in enumerate(NAMES):
             for value in (-1, -(2**31), 256 if place == 0 else 2**32, 2**40, 2**64):
                 wrong = [0, value]

@@ -6,7 +6,7 @@ import unittest
 from array import array
 
 import pgboard
-from test_pgboard import Tests, csr_of
+from test_pgboard import Tests, csr_of, with_one
 
 
 class Rules(Tests):
@@ -49,7 +49,7 @@ class Rules(Tests):
                     board.finish()
                     self.assertEqual(board.solution(), found)
                 for v, winner in enumerate(winners):
-                    wrong = [*winners[:v], 1 - winner, *winners[v + 1 :]]
+                    wrong = with_one(winners, v, 1 - winner)
                     with self.assertRaises(pgboard.NotASolution):
                         pgboard.verify(*game, wrong, choices, **how)
 

@@ -23,6 +23,7 @@ sys.path.insert(1, os.path.dirname(os.path.dirname(os.path.abspath(__file__))))
 import lib  # noqa: F401 isort: skip
 
 import contextlib
+import html
 import re
 import select
 import shlex
@@ -31,20 +32,8 @@ import subprocess
 import threading
 import time
 
-from pgboard.command import (
-    FILE,
-    WORDS,
-    Parser,
-    Refused,
-    engine,
-    folder,
-    on_signals,
-    printable,
-    run,
-    seconds,
-    undone,
-    write,
-)
+from pgboard.command import FILE, WORDS, Parser, Refused, engine, folder, of_form, on_signals, printable, run
+from pgboard.command import seconds, undone, write
 from pgboard.command.games import PLAYERS, Solution, game_of, solution_of
 
 HELP = """
@@ -151,7 +140,6 @@ class Solver:
         return bytes(found)
 
     def end(self, why=""):
-        """Ends the command and all that it has started."""
         if self.is_over:
             return
         with self.starting:
@@ -210,7 +198,6 @@ class Referee:
                     it.end("ended, since the board is full")
 
     def read(self, text):
-        """What each player is said to win, or why that can't be read."""
         try:
             return self.game.parts_of(text)
         except Refused as refused:
@@ -263,47 +250,24 @@ class Referee:
                     count += settled
                     steps.append(f"H{across(when)}V{up(count)}")
             colour, y = COLOURS[worker % len(COLOURS)], HEIGHT + 36 + 20 * worker
-            lines.append(
-                f'<path id="worker{worker}" d="{"".join(steps)}H{WIDTH}" fill="none" stroke="{colour}" stroke-width="2.5"/>'
-            )
-            lines.append(
-                f'<path d="M{LEFT},{y - 4}h24" stroke="{colour}" stroke-width="2.5"/><text x="{LEFT + 32}" y="{y}">{count} {escaped(name)}</text>'
-            )
+            stroke = f'stroke="{colour}" stroke-width="2.5"'
+            lines += [
+                f'<path id="worker{worker}" d="{"".join(steps)}H{WIDTH}" fill="none" {stroke}/>',
+                f'<path d="M{LEFT},{y - 4}h24" {stroke}/>',
+                f'<text x="{LEFT + 32}" y="{y}">{count} {html.escape(printable(name), quote=False)}</text>',
+            ]
         return "\n".join([*lines, "</svg>\n"])
-
-
-def escaped(text):
-    return printable(text).replace("&", "&amp;").replace("<", "&lt;")
-
-
-def svg_path(path):
-    if not path.endswith(".svg"):
-        raise ValueError
-    return path
-
-
-svg_path.__name__ = "picture (.svg)"
 
 
 def main(words):
     parser = Parser(__doc__, HELP)
     parser.add_argument("game", metavar="GAME", help="a game; - is standard input")
-    parser.add_argument(
-        "--solver",
-        metavar="COMMAND",
-        action="append",
-        default=[],
-        help="the command of a solver; there may be several",
-    )
-    parser.add_argument(
-        "--time", metavar="SECONDS", type=seconds, default=60, help="the time that each solver has (60)"
-    )
-    parser.add_argument(
-        "--picture",
-        metavar="FILE",
-        type=svg_path,
-        help="draw how many vertices each solver settled, over time, in .svg",
-    )
+    said = "the command of a solver; there may be several"
+    parser.add_argument("--solver", metavar="COMMAND", action="append", default=[], help=said)
+    said = "the time that each solver has (60)"
+    parser.add_argument("--time", metavar="SECONDS", type=seconds, default=60, help=said)
+    said = "draw how many vertices each solver settled, over time, in .svg"
+    parser.add_argument("--picture", metavar="FILE", type=of_form(r".*\.svg", "picture (.svg)"), help=said)
     parser.set_defaults(min=False, odd=False, dead_ends=None)
     given = parser.parse_args(words)
     solvers = []

@@ -8,7 +8,7 @@ are one. State numbers that no state has may go anywhere.
 """
 
 from pgboard import command
-from pgboard.command import Refused, printable
+from pgboard.command import Refused, of_form, printable
 
 MOST_VARIABLES = 20
 # a sum of products takes longer: only up to so many variables
@@ -82,7 +82,6 @@ class Gates:
         return table & self.all(at + 1), table >> self.size(at + 1)
 
     def table(self, literals):
-        """The truth tables of literals."""
         tables, all_of = {0: 0}, self.all(0)
         for at, variable in enumerate(self.variables):
             half = self.size(at + 1)
@@ -164,7 +163,6 @@ class Circuit:
             yield from (f"{letter}{at} {printable(name)}\n" for at, name in enumerate(names))
 
     def text(self):
-        """The ASCII form."""
         first = len(self.input_names) + 1
         lines = [f"{2 * it}\n" for it in range(1, first)]
         lines += [f"{2 * (first + at)} {root}\n" for at, root in enumerate(self.roots[: self.latches])]
@@ -192,18 +190,11 @@ def joined(parts, width):
     return parts[0]
 
 
-def path(text):
-    """The path of a circuit, for argparse; its ending says in which form it is written, and `-` is ASCII."""
-    if text != "-" and not text.endswith((".aag", ".aig")):
-        raise ValueError
-    return text
-
-
-path.__name__ = "circuit (.aag, .aig or -)"
+# by its ending a file has the ASCII or the binary form, and `-` is ASCII
+path = of_form(r"-|.*\.(aag|aig)", "circuit (.aag, .aig or -)")
 
 
 def write(name, circuit):
-    """Writes a circuit to a file; to none for `-`."""
     if name.endswith(".aig"):
         command.write(name, circuit.data())
     elif name != "-":

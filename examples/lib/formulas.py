@@ -160,8 +160,6 @@ class Parser(Tokens):
 
 
 class Labels:
-    """The labels of a model, and those that sets of actions take."""
-
     def __init__(self, labels):
         self.all, self.spelled = set(labels), {}
         for label in self.all:
@@ -239,7 +237,6 @@ class Formula:
         return number, self.free[number], self.texts[number]
 
     def add(self, tree, negated, scope):
-        """Adds a subformula or its negation."""
         operator, at, *rest = tree
         if operator == "!":
             return self.add(rest[0], not negated, scope)

@@ -138,7 +138,7 @@ static inline void random_game(uint64_t *seed)
 }
 
 /* The recursive ladder (Friedmann 2011), on which a recursion that keeps nothing takes time exponential in the levels. The
- * number of steps is that of `Recursion` in tests/plain.py for what the searches leave: no dominion of at most four vertices. */
+ * number of steps is that of what the searches leave: no dominion of at most four vertices. */
 #define STEPS_OF_26_LEVELS 85
 static inline void ladder(uint32_t levels)
 {

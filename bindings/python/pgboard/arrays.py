@@ -13,8 +13,6 @@ from .library import NO_CHOICE, NO_WINNER, Ints, number_of
 
 
 class HasBuffer(Protocol):
-    """What has Python's buffer protocol."""
-
     def __buffer__(self, flags: int, /) -> memoryview:
         ...
 
@@ -126,7 +124,6 @@ def rows_of(successors: Iterable[Numbers]) -> tuple[Ints, Ints]:
 def game_of(
     owners: Numbers, priorities: Numbers, successors: Iterable[Numbers]
 ) -> tuple[Ints, Ints, Ints, Ints]:
-    """The arrays of a game."""
     return (numbers("owners", "B", owners), numbers("priorities", "I", priorities), *rows_of(successors))
 
 
@@ -139,7 +136,6 @@ def claims_of(winners: MaybeNumbers, choices: MaybeNumbers) -> tuple[Ints, Ints]
 
 
 def pair_of(known: Any) -> tuple[Any, Any]:
-    """The winners and choices of what is known."""
     try:
         winners, choices = known
     except (TypeError, ValueError):

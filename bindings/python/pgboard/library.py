@@ -110,7 +110,6 @@ def run(name: str, *arguments: Any) -> None:
 
 
 def fault_of(answer: int, at: int, to: int) -> Exception:
-    """The fault of an answer."""
     return (
         FAULTS[answer](at, to)
         if answer in FAULTS
@@ -132,11 +131,9 @@ class Handle:
         self.memory = ctypes.create_string_buffer(16)
 
     def open(self, game: Sequence[Ints]) -> None:
-        """Opens a board of a game in arrays."""
         run("pgboard_board_open", self.memory, native.struct_of(game))
 
     def open_text(self, text: Ints) -> None:
-        """Opens a board of the game of a text."""
         run("pgboard_board_open_text", self.memory, *native.span_of(text))
 
     def post(self, worker: int, player: int, claim: Sequence[Ints]) -> tuple[int, int, int]:
@@ -159,11 +156,9 @@ class Handle:
         return Slice(is_last, steps - left.value, time.monotonic() - begun)
 
     def solution_text(self, into: Ints) -> str:
-        """The solution's text, which is written to the front of a buffer."""
         return written(into, "pgboard_board_solution_text", self.memory)
 
     def count(self, what: str) -> int:
-        """How many vertices are settled, or how many entries there are."""
         return int(getattr(LIBRARY, f"pgboard_board_{what}")(self.memory))
 
     def entry(self, number: int) -> tuple[bytes, Ints, Ints]:
@@ -174,5 +169,4 @@ class Handle:
         return found
 
     def close(self) -> None:
-        """Frees the board, if it is open."""
         LIBRARY.pgboard_board_close(self.memory)

@@ -17,7 +17,6 @@ SMALL = 512
 
 
 def blank(size: int) -> Solution:
-    """Arrays for a solution of a game with so many vertices."""
     return Solution(array("B", bytes(size)), array("I", bytes(4 * size)))
 
 
@@ -68,7 +67,6 @@ def blank_text(game: Ints) -> Ints:
 
 
 def solve_bytes(game: Ints, limits: Limits) -> str:
-    """The solution's text of a game's text."""
     with closing(Handle()) as board:
         board.open_text(game)
         # (a vertex takes eight bytes or more)

@@ -4,7 +4,7 @@ use Rattle.std.proofs.Common.{IfOk, IsTrue, rules}
 use Rattle.std.proofs.lemmas.Result.{IfOk-weaker}
 use Rattle.std.specs.declared.alloc.AllocError.{AllocError}
 use Rattle.pg_finders.specs.Steps.{steps}
-use Rattle.pg_board.specs.SessionRecord.{SessionRecord}
+use Rattle.pg_board.specs.BoardRecord.{SessionRecord}
 use Rattle.pg_board.specs.Work.{total_of}
 use Rattle.pg_board.specs.Slices.{slices_left, most_slices, IsCharged}
 use Rattle.pg_board.specs.declared.advance.Stage.{Stage}

@@ -5,12 +5,10 @@ pub mod Laws
 pub mod Refusal
 pub mod BoardRecord
 pub mod Post
-pub mod Shares
 pub mod Full
 pub mod Board
 pub mod Finish
 pub mod Work
-pub mod SessionRecord
 pub mod Slices
 pub mod Office
 pub mod private

@@ -1,6 +1,6 @@
--- The results of a call through a lock: those of some lawful board of a game within the limits, with at least the
--- share's amount settled.
-use Rattle.std.specs.Prelude.{ℕ, ◌≡◌, ◌≤◌, ◌+◌, Result, Ok, Err, IfOk, OnErr}
+-- The shares of an office, and the results of a call through its lock: those of some lawful board of a game within the limits,
+-- with at least the share's amount settled.
+use Rattle.std.specs.Prelude.{ℕ, ◌≡◌, ◌≤◌, ◌+◌, List, sum, Result, Ok, Err, IfOk, OnErr}
 use Rattle.pg_game.specs.Specification.{max_vertices}
 use Rattle.pg_finders.specs.declared.inside.Copied.{Copied}
 use Rattle.pg_dominion.specs.declared.claim.Claim.{Claim}
@@ -8,9 +8,14 @@ use Rattle.pg_dominion.specs.Checked.{CheckedClaim}
 use Rattle.pg_board.specs.declared.journal.Posted.{Posted}
 use Rattle.pg_board.specs.declared.journal.Refusal.{Refusal}
 use Rattle.pg_board.specs.BoardRecord.{BoardRecord}
-use Rattle.pg_board.specs.Journal.{number_settled}
+use Rattle.pg_board.specs.Journal.{Journal, number_settled}
 use Rattle.pg_board.specs.Board.{IsLawfulBoard, IsCopyOf}
 use Rattle.pg_board.specs.Post.{IsPostAnswer, IsSettleAnswer}
+
+-- all amounts together are the book, and the book is the number settled
+pub record AreExact (amounts : List ℕ) (book : ℕ) (journal : Journal) : Type 0 where
+  pub amounts_are : sum amounts ≡ book
+  pub book_is : book ≡ number_settled journal
 
 -- a copy of some lawful board with at least the amount settled
 abbrev pub IsCopyOfSome : ℕ → Copied → Type 0

@@ -31,10 +31,7 @@ abbrev pub AnswersDominion : State → ClaimRows → Result Posted Refusal → T
 AnswersDominion st rows (Ok posted) = posted.claimed ≡ length (rest_of st rows)
 AnswersDominion st rows (Err refusal.Stale) = rest_of st rows ≡ []
 AnswersDominion st rows (Err refusal.Memory) = Unit {0}
-AnswersDominion st rows (Err (refusal.Claim fault)) = ⊥
-AnswersDominion st rows (Err (refusal.Foreign v)) = ⊥
-AnswersDominion st rows (Err (refusal.Lost v)) = ⊥
-AnswersDominion st rows (Err (refusal.Open v w)) = ⊥
+AnswersDominion st rows (Err other) = ⊥
 
 -- the player then has what his old vertices and the claim's attract, and the opponent the same as before
 pub record SettlesDominion (old new : BoardRecord) (p : Player) (rows : ClaimRows) : Type 0 where

@@ -1,9 +1,9 @@
 -- Why a board refuses a claim: the first reason that applies.
-use Rattle.std.specs.Prelude.{ℕ, ◌≡◌, ◌≢◌, ◌≤◌, false, []}
+use Rattle.std.specs.Prelude.{ℕ, ◌≡◌, ◌≢◌, false, []}
 use Rattle.pg_game.specs.declared.player.Player.{Player}
 use Rattle.pg_game.specs.Player.{opponent}
 use Rattle.pg_game.specs.Graph.{Graph}
-use Rattle.pg_game.specs.Least.{IsLeast, NoneHas}
+use Rattle.pg_game.specs.Least.{IsFirstEdge, IsLeast, NoneHas}
 use Rattle.pg_game.specs.VertexSet.{In, union}
 use Rattle.pg_game.specs.Kept.{KeptEdge}
 use Rattle.pg_dominion.specs.Claim.{ClaimRows, named, choice_in, IsSound}
@@ -22,12 +22,6 @@ IsLost st p rows v = In (named rows) v × In (settled st (opponent p)) v
 abbrev pub IsOpenEdge : Graph → State → Player → ClaimRows → ℕ → ℕ → Type 0
 IsOpenEdge g st p rows v w = KeptEdge g p (named rows) (choice_in rows) v w × (union (named rows) (settled st p) w ≡ false)
 
--- an edge from v to w, no edge from a lesser vertex than v, and none from v to a lesser one than w
-pub record IsFirstEdge (E : ℕ → ℕ → Type 0) (v w : ℕ) : Type 0 where
-  pub edge : E v w
-  pub first : (u x : ℕ) → E u x → v ≤ u
-  pub least : (x : ℕ) → E v x → w ≤ x
-
 abbrev pub Refuses : Graph → State → Player → ClaimRows → Refusal → Type 0
 Refuses g st p rows (refusal.Claim fault) = IsClaimFault g p rows fault × (fault ≢ claim_fault.Memory)
 Refuses g st p rows (refusal.Foreign v) = ⊥
@@ -45,7 +39,4 @@ refusal_of fault = refusal.Claim fault
 abbrev pub IsOfState : Refusal → Type 0
 IsOfState (refusal.Claim fault) = ⊥
 IsOfState (refusal.Foreign v) = ⊥
-IsOfState (refusal.Lost v) = Unit {0}
-IsOfState refusal.Stale = Unit {0}
-IsOfState (refusal.Open v w) = Unit {0}
-IsOfState refusal.Memory = Unit {0}
+IsOfState other = Unit {0}

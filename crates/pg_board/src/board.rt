@@ -1,7 +1,7 @@
 //! The board: a game, the journal of its settled vertices, and tables of the journal's state.
 //! The invariant of its type is that the journal is lawful, so every board has a lawful one.
 
-ghost use Rattle.std.specs.Prelude.{◌≡◌, ◌≤◌, ℕ, [], length, take, IfOk, IfErr, OnErr, IsTrue, IsSome, IfSome, ◌↔◌};
+ghost use Rattle.std.specs.Prelude.{◌≡◌, [], take, IfOk, IfErr, OnErr, IsTrue, ◌↔◌};
 ghost use Rattle.pg_dominion.specs.Claim.{IsSound};
 ghost use Rattle.pg_board.specs.State.{IsGoodOn, choices, winner_in};
 ghost use Rattle.pg_board.specs.Journal.{state_of, number_settled, settled_by};
@@ -86,9 +86,9 @@ impl<'g> Board<'g> {
         })
     }
 
-    /// Checks the claim on the present state. If it is good, the journal gains one entry: the claim's rest, and then all that
-    /// it attracts for the claim's player from the unsettled part (Zielonka 1998). Else the error is the first reason that
-    /// applies, in the order of `Refusal`, or `Memory`. After an error nothing has changed.
+    /// Checks the claim, and settles it on the present state. If it is good, the journal gains one entry: the claim's rest,
+    /// and then the unsettled vertices that the claim's player attracts to his (Zielonka 1998). Else the error is the first
+    /// reason that applies, in the order of `Refusal`, or `Memory`. After an error nothing has changed.
     pub fn post(&mut self, alloc: Global, worker: u32, claim: &Claim) -> Result<Posted, Refusal>
         ensures { IsPostAnswer self.old self.new worker claim.now result }
     {
@@ -197,7 +197,7 @@ impl<'g> Board<'g> {
         self.contents.number = number;
     }
 
-    /// The same as `post` for a claim that is known to be sound.
+    /// Settles a claim that is known to be sound.
     fn settle_sound(&mut self, alloc: Global, worker: u32, claim: &Claim) -> Result<Posted, Refusal>
         requires { IsSound self.old.graph claim.now.player claim.now.rows }
         ensures game { self.new.graph ≡ self.old.graph }

@@ -1,6 +1,5 @@
 //! The board: it checks each claim against its state, closes both regions under attraction, and keeps a journal of which
 //! every prefix is lawful. The session: a game with its board. The office: one board under a lock.
-//! Uses pg_finders (copies, the recursion), pg_dominion (claims, attractors) and pg_game.
 #![tactic(auto)]
 
 mod advance;

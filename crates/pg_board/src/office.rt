@@ -2,13 +2,12 @@
 //! amount is the number of vertices that were settled through it. The ledger keeps the book equal to the sum of all amounts,
 //! and the type under the lock keeps it equal to the number settled.
 
-ghost use Rattle.std.specs.Prelude.{◌≡◌, ◌+◌, ◌-◌, ◌≤◌, ◌<◌, ℕ, ◌∷◌, [], IfOk, IfSome, length, sum, replicate, vec_capacity, vec_len};
+ghost use Rattle.std.specs.Prelude.{◌≡◌, ◌+◌, ◌-◌, ◌≤◌, ◌<◌, ℕ, ◌∷◌, [], IfOk, sum, replicate, vec_len};
 ghost use Rattle.pg_game.specs.Specification.{max_vertices};
 ghost use Rattle.pg_board.specs.Journal.{IsLawful, number_settled};
 ghost use Rattle.std.specs.Sync.Mutex.{mutex_guard_value};
-ghost use Rattle.pg_board.specs.Shares.{AreExact};
 ghost use Rattle.pg_board.specs.Board.{IsLawfulBoard};
-ghost use Rattle.pg_board.specs.Office.{IsCopyOfSome, Through, IsAnswerOfSome, IsCheckedAnswerOfSome, IsRaised};
+ghost use Rattle.pg_board.specs.Office.{AreExact, IsCopyOfSome, Through, IsAnswerOfSome, IsCheckedAnswerOfSome, IsRaised};
 ghost use Rattle.pg_board.specs.Post.{IsPostAnswer, IsSettleAnswer};
 
 use crate::board::Board;

@@ -9,14 +9,14 @@ ghost use Rattle.std.specs.List.Sorted.{IsStrictlyIncreasing};
 ghost use Rattle.pg_board.specs.State.{settled, is_unsettled, rest_of};
 ghost use Rattle.pg_board.specs.private.Regions.{table_state, AreRegions, state_with};
 ghost use Rattle.pg_board.specs.private.VertexState.{state_in};
-ghost use Rattle.pg_game.specs.Graph.{HasEdge, IsGame};
+ghost use Rattle.pg_game.specs.Graph.{IsGame};
 ghost use Rattle.pg_game.specs.Subgame.{IsSubgame};
 ghost use Rattle.pg_game.specs.VertexSet.{members, In, Within, union, without};
 ghost use Rattle.pg_dominion.specs.Claim.{vertices, named, IsRightRow, AreRight};
 ghost use Rattle.pg_dominion.specs.AttractorState.{AttractsNoFurther};
 ghost use Rattle.pg_board.specs.private.WrittenRows.{open_before, HasWritten, WritesInTurn};
-ghost use Rattle.pg_board.specs.Refusal.{IsFirstEdge, IsLost, IsOpenEdge};
-ghost use Rattle.pg_game.specs.Least.{NoneHas, IsLeast};
+ghost use Rattle.pg_board.specs.Refusal.{IsLost, IsOpenEdge};
+ghost use Rattle.pg_game.specs.Least.{NoneHas, IsFirstEdge, IsLeast};
 ghost use Rattle.pg_board.specs.private.OpenEdges.{AreTakenOut, EndsOutside};
 
 use pg_dominion::{AttractorState, Claim, Cursors, attract_from};

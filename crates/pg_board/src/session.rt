@@ -31,8 +31,7 @@ pub struct Session {
 }
 
 impl Model for Session {
-    ghost use Rattle.pg_board.specs.BoardRecord.{journal_of};
-    ghost use Rattle.pg_board.specs.SessionRecord.{SessionRecord};
+    ghost use Rattle.pg_board.specs.BoardRecord.{SessionRecord, journal_of};
     ghost use Rattle.pg_board.specs.Slices.{slices_left};
     ghost use Rattle.std.specs.Arc.{arc_value};
     ghost use Rattle.pg_board.specs.private.Contents.{AreContentsOf};

@@ -99,11 +99,3 @@ pub foreign_here : (g : Graph) (p : Player) (rows items : List CheckedRow) → i
 foreign_here g p rows items same i r l e a n =
     let h = foreign_at g p items i r l a (λ q. n (subst (λ (y : CheckedRow). AgreesAt g p y) (sym e) q)) in
     subst (λ (zs : List CheckedRow). IsForeign g p zs r.vertex) same (subst (λ (y : CheckedRow). IsForeign g p items y.vertex) (sym e) h)
-
--- where all rows agree, none is foreign
-pub never_foreign : (g : Graph) (p : Player) (rows : List CheckedRow) (v : ℕ) → AgreesWithGame g p rows → IsForeign g p rows v → ⊥
-never_foreign g p rows v a f = f.differs (agrees_mid f.before (subst (λ (xs : List CheckedRow). AgreesWithGame g p xs) f.split a))
-  where
-    agrees_mid : (before : List CheckedRow) → AgreesWithGame g p (before ++ f.row ∷ f.after) → AgreesAt g p f.row
-    agrees_mid [] h = h.0
-    agrees_mid (x ∷ xs) h = agrees_mid xs h.1

@@ -1,8 +1,8 @@
 -- The names that several proofs of this crate cite, passed on from one place. Declares nothing.
 pub use mathlib.Core.Path.{fun_ext}
 pub use Rattle.std.proofs.Common.{Bool, IfSome, List, [], ap, arith, below_more, drop, false, get_or, get_or-set_other, get_or-set_same, inl, inr, length}
-pub use Rattle.std.proofs.Common.{length-append, length-set, lt-ltb, ltb-true, map, refl, rules, set, slice_index, subst, suc, sym, take, true, vec_len, zero}
-pub use Rattle.std.proofs.Common.{ℕ, ◌%◌, ◌&&◌, ◌++◌, ◌+◌, ◌-◌, ◌<◌, ◌||◌, ◌↔◌, ◌∙◌, ◌∷◌, ◌≡◌, ◌≢◌, ◌≤◌, ◌⊎◌}
+pub use Rattle.std.proofs.Common.{length-append, length-set, lt-ltb, ltb-true, map, refl, rules, set, slice_index, subst, suc, sym, take, true, zero}
+pub use Rattle.std.proofs.Common.{ℕ, ◌&&◌, ◌++◌, ◌+◌, ◌-◌, ◌<◌, ◌||◌, ◌↔◌, ◌∙◌, ◌∷◌, ◌≡◌, ◌≢◌, ◌≤◌, ◌⊎◌}
 pub use Rattle.std.proofs.Math.Bool.{or-false}
 pub use Rattle.std.proofs.lemmas.Bool.{cases_Bool, cases_eq, cases_lt, eq-eqb, eqb-true, false_from_ne_true, ne_eqb, or_cases, or_left, or_parts, or_right}
 pub use Rattle.std.proofs.lemmas.Bool.{true≢false}
@@ -34,8 +34,7 @@ pub use Rattle.pg_dominion.specs.AttractorState.{AttractsNoFurther, Takes, liste
 pub use Rattle.pg_dominion.specs.Attraction.{IsAttractedRow, IsAttraction}
 pub use Rattle.pg_dominion.specs.Checked.{AgreesAt, AgreesWithGame, AreChecked, RowEdge, claim_row, claim_rows, row_priority}
 pub use Rattle.pg_dominion.specs.Claim.{AreRight, ClaimRows, IsRightRow, IsSound, choice_in, named}
-pub use Rattle.pg_dominion.specs.Kept.{IsKept}
-pub use Rattle.pg_dominion.specs.KeptEdges.{Edge, IsOnBadCycle, ends_at, is_bad, kept_row}
+pub use Rattle.pg_dominion.specs.KeptEdges.{Edge, IsOnBadCycle, IsStrategy, ends_at, is_bad, kept_row}
 pub use Rattle.pg_dominion.specs.declared.checked.CheckedRow.{CheckedRow}
 pub use Rattle.pg_dominion.specs.declared.strategy_graph.StrategyGraph.{StrategyGraph}
 pub use Rattle.pg_dominion.specs.private.FreeVertices.{IsTakenOrOpen}
@@ -43,6 +42,4 @@ pub use Rattle.pg_dominion.specs.ExtendedRows.{LeadFrom}
 pub use Rattle.pg_dominion.specs.private.KeptEdges.{AreLabelled, AreNoted, AreReached, EdgeUnder, GoesOn, IsFollowed, IsQueued, IsSpread, Leads, Reaches}
 pub use Rattle.pg_dominion.specs.private.KeptEdges.{label_lists, reached_lists}
 pub use Rattle.pg_dominion.specs.private.JointStrategy.{LeavesTo}
-pub use Rattle.pg_dominion.specs.private.Shape.{next_after}
-pub use Rattle.pg_dominion.specs.Strategies.{IsStrategy}
 pub use Rattle.pg_dominion.specs.private.ListedEnds.{AreNamed, LeadsToListed}

@@ -1,15 +1,26 @@
 -- The shape of a claim, one row after another.
-use Rattle.pg_dominion.proofs.Common.{◌≡◌, ℕ, zero, suc, ◌+◌, ◌<◌, ◌≤◌, false, inl, inr, List, [], ◌∷◌, ◌++◌, length, take, get_or, refl, sym, subst}
+use Rattle.pg_dominion.proofs.Common.{◌≡◌, ℕ, zero, suc, ◌+◌, ◌<◌, ◌≤◌, inl, inr, List, [], ◌∷◌, ◌++◌, length, take, get_or, sym, subst}
 use Rattle.pg_dominion.proofs.Common.{arith, length-append, rules, below_or_last, Option}
-use Rattle.pg_dominion.proofs.Common.{IsStrictlyIncreasing, eqb-true, false_from_ne_true}
-use Rattle.pg_dominion.proofs.Common.{drop, take-append-drop, take_more, take_all, length-map, get_or_append_left, get_or_push, sorted_from_strictly_increasing}
-use Rattle.pg_dominion.proofs.Common.{below_from_sorted, Player, Graph, ClaimRows, named, IsRightRow, AreRight, next_after}
-use Rattle.std.specs.Prelude.{slice_index}
+use Rattle.pg_dominion.proofs.Common.{IsStrictlyIncreasing}
+use Rattle.pg_dominion.proofs.Common.{take_more, take_all, length-map, get_or_append_left, get_or_push, sorted_from_strictly_increasing}
+use Rattle.pg_dominion.proofs.Common.{below_from_sorted, Player, Graph, ClaimRows, IsRightRow, AreRight}
+use Rattle.std.specs.Prelude.{slice_index, max}
 use Rattle.std.proofs.Common.{None}
 use Rattle.pg_dominion.specs.Claim.{IsFirstWrongRow, vertices}
-use Rattle.pg_dominion.specs.private.Shape.{AreRightBefore}
 use Rattle.std.proofs.lemmas.List.{map_push, map-append}
 use Rattle.pg_game.proofs.AllElements.{all-push, all-front, all-back}
+
+-- the least number above all vertices of the rows
+abbrev pub next_after : ClaimRows → ℕ
+next_after [] = 0
+next_after (r ∷ rows) = max (r.0 + 1) (next_after rows)
+
+-- the first rows, up to this number, are right, and this is the least vertex that the next one may have
+pub record AreRightBefore (g : Graph) (p : Player) (rows : ClaimRows) (place least : ℕ) : Type 0 where
+  pub right : AreRight g p (take place rows)
+  pub least_is : least ≡ next_after (take place rows)
+  pub far : place ≤ least
+  pub within : least ≤ length g
 
 pub next_after-push : (rows : ClaimRows) (r : ℕ × Option ℕ) → next_after rows ≤ r.0 → next_after (rows ++ r ∷ []) ≡ r.0 + 1
 next_after-push [] r l = omega arith

@@ -1,10 +1,10 @@
--- The kept edges of a game, and how those of one vertex more are kept.
-use Rattle.std.specs.Prelude.{ℕ, ◌≡◌, ◌≢◌, Bool, false, Option, Some, None, List, [], ◌∷◌, slice_index, Contains, if◌then◌else◌}
+-- The kept edges of a game, how those of one vertex more are kept, and what a strategy graph keeps of players' choices.
+use Rattle.std.specs.Prelude.{ℕ, ◌≡◌, ◌≢◌, ◌&&◌, Bool, false, Option, Some, None, List, [], ◌∷◌, slice_index, Contains, if◌then◌else◌}
 use Rattle.pg_game.specs.declared.player.Player.{Player}
 use Rattle.pg_game.specs.Player.{same_player, opponent, of_parity}
 use Rattle.pg_game.specs.Graph.{Graph, owner_of, priority_of, successors_of}
-use Rattle.pg_game.specs.Kept.{Choices}
-use Rattle.pg_game.specs.VertexSet.{In, members}
+use Rattle.pg_game.specs.Kept.{Choices, kept}
+use Rattle.pg_game.specs.VertexSet.{VertexSet, In, members}
 use Rattle.pg_game.specs.Walk.{ClosedWalk, greatest_priority}
 use Rattle.pg_dominion.specs.declared.strategy_graph.StrategyGraph.{StrategyGraph}
 
@@ -56,3 +56,9 @@ pub record IsKeptWith (old : StrategyGraph) (v : ℕ) (bad : Bool) (choice : Opt
   pub row_is : kept_row new v ≡ ends_at old.game.now v choice
   pub bad_is : members new.bad v ≡ bad
   pub others : (x : ℕ) → x ≢ v → IsSameAt old new x
+
+-- of each vertex of the set, what its player keeps with these choices, and of others nothing; bad are the vertices of the set that are
+-- bad for their player
+pub record IsStrategy (k : StrategyGraph) (X : VertexSet) (player_at : ℕ → Player) (s : Choices) : Type 0 where
+  pub rows : (v : ℕ) → kept_row k v ≡ (if X v then kept k.game.now (player_at v) s v else [])
+  pub bad : (v : ℕ) → members k.bad v ≡ (X v && is_bad k.game.now (player_at v) v)

@@ -2,8 +2,6 @@
 pub mod FreeVertices
 pub mod KeptEdges
 pub mod Labels
-pub mod Shape
 pub mod JointStrategy
 pub mod Ranking
-pub mod SearchProgress
 pub mod ListedEnds

@@ -4,7 +4,7 @@
 //! At an opponent's vertex a cursor in its row moves on while the successor there is outside or taken. If none is left, the player
 //! takes the vertex. So the search counts nothing.
 
-ghost use Rattle.std.specs.Prelude.{◌<◌, ◌≤◌, ℕ, length, take, OnOk, OnErr, vec_capacity, ◌≡◌, ◌^◌, slice_index, IfOk, false};
+ghost use Rattle.std.specs.Prelude.{◌<◌, ◌≤◌, ℕ, length, take, OnOk, OnErr, vec_capacity, ◌≡◌, IfOk, false};
 ghost use Rattle.pg_game.specs.Graph.{HasEdge};
 ghost use Rattle.pg_game.specs.Predecessors.{ArePredecessors};
 ghost use Rattle.pg_game.specs.VertexSet.{In, Within, all_vertices, union, members};
@@ -125,8 +125,8 @@ pub fn attract_from<A: AttractorState>(
 
 /// The vertices outside the target that the player attracts to it inside a subgame, each once (Zielonka 1998).
 ///
-/// A row of the player's vertex has a choice, which is in the target or an earlier row. A row of the opponent's vertex
-/// has none, and all its successors inside are in the target or earlier rows. The only error is `Memory`.
+/// Each row leads to the target or to a row before it: at a vertex of the player by its choice, and at a vertex of the
+/// opponent, which has none, by every successor inside. The only error is `Memory`.
 pub fn attract(
     alloc: Global,
     game: &Game,

@@ -7,8 +7,8 @@ ghost use Rattle.pg_dominion.specs.Fault.{IsClaimFault};
 ghost use Rattle.pg_dominion.specs.Checked.{claim_row, claim_rows, claim_of, KeepsOne, AgreesAt, AgreesWithGame, IsForeign, AreChecked};
 
 use crate::claim::{Claim, ClaimFault, judge_claim, kept_successors};
-use pg_game::{ForwardGame, Game, Player, Sequence};
-use std::alloc::{AllocError, Global};
+use pg_game::{ForwardGame, Game, Memory, Player, Sequence};
+use std::alloc::Global;
 use std::marker::Model;
 
 /// A vertex of a checked claim, with what its game says of it. The kept successors are the choice alone where the
@@ -28,7 +28,7 @@ impl CheckedRow {
         game: &ForwardGame,
         player: Player,
         row: (u32, Option<u32>),
-    ) -> Result<CheckedRow, AllocError>
+    ) -> Result<CheckedRow, Memory>
         requires { IsRightRow game.now player row }
         ensures agrees { IfOk result (AgreesAt game.now player) }
         ensures row { IfOk result (λ r. claim_row player r ≡ row) }
@@ -82,11 +82,7 @@ impl Model for Checked {
 
 impl Checked {
     /// A claim that is known to be sound, with what its game says of its vertices.
-    pub(crate) fn of(
-        alloc: Global,
-        game: &ForwardGame,
-        claim: &Claim,
-    ) -> Result<Checked, AllocError>
+    pub(crate) fn of(alloc: Global, game: &ForwardGame, claim: &Claim) -> Result<Checked, Memory>
         requires { IsSound game.now claim.now.player claim.now.rows }
         ensures holds { IfOk result (λ c. claim_of c ≡ claim.now) }
         ensures agrees { IfOk result (λ c. AgreesWithGame game.now c.player c.rows) }
@@ -94,10 +90,7 @@ impl Checked {
         let rows = checked_rows(alloc, game, claim)?;
         let own = Vec::from_slice(alloc, claim.rows.as_slice())?;
         Ok(Checked {
-            claim: Claim {
-                player: claim.player,
-                rows: Sequence::new(own),
-            },
+            claim: Claim::new(claim.player, own),
             rows,
         })
     }
@@ -151,11 +144,7 @@ pub fn check_claim(alloc: Global, game: &Game, claim: &Claim) -> Result<Checked,
 }
 
 /// What the game says of the rows of a claim that are right in it.
-fn checked_rows(
-    alloc: Global,
-    game: &ForwardGame,
-    claim: &Claim,
-) -> Result<Vec<CheckedRow>, AllocError>
+fn checked_rows(alloc: Global, game: &ForwardGame, claim: &Claim) -> Result<Vec<CheckedRow>, Memory>
     requires { AreRight game.now claim.now.player claim.now.rows }
     ensures agree { IfOk result (λ rows. AgreesWithGame game.now claim.now.player rows.items) }
     ensures rows { IfOk result (λ rows. claim_rows claim.now.player rows.items ≡ claim.now.rows) }

@@ -17,8 +17,8 @@ ghost use Rattle.pg_dominion.specs.private.ListedEnds.{LeadsToListed, AreNamed};
 use crate::cycles::least_bad_vertex;
 use crate::notes::is_bad;
 use crate::strategy_graph::StrategyGraph;
-use pg_game::{ForwardGame, Game, Player, Sequence};
-use std::alloc::{AllocError, Global};
+use pg_game::{ForwardGame, Game, Memory, Player, Sequence};
+use std::alloc::Global;
 use std::slice;
 
 /// Vertices that a player claims to win, rising, with his choice at each that he owns.
@@ -26,6 +26,19 @@ use std::slice;
 pub struct Claim {
     pub player: Player,
     pub rows: Sequence<(u32, Option<u32>)>,
+}
+
+impl Claim {
+    /// The player's claim of these rows.
+    pub fn new(player: Player, rows: Vec<(u32, Option<u32>)>) -> Claim
+        ensures player { result.player ≡ player }
+        ensures rows { result.rows ≡ rows.items }
+    {
+        Claim {
+            player,
+            rows: Sequence::new(rows),
+        }
+    }
 }
 
 /// Why a claim is not accepted. The first that applies is returned, but `Memory` may come in place of any.
@@ -40,13 +53,13 @@ pub enum ClaimFault {
     Memory,
 }
 
-impl From<AllocError> for ClaimFault {
+impl From<Memory> for ClaimFault {
     ghost use Rattle.std.specs.Prelude.{◌≡◌};
     ghost use Rattle.pg_dominion.specs.declared.claim.ClaimFault.{ClaimFault};
 
     ghost from_gives = { λ _ f. f ≡ ClaimFault.Memory };
 
-    fn from(_error: AllocError) -> ClaimFault {
+    fn from(_error: Memory) -> ClaimFault {
         ClaimFault::Memory
     }
 }
@@ -129,7 +142,7 @@ fn is_right_row(game: &ForwardGame, player: Player, row: (u32, Option<u32>)) -> 
 const MOST_ROWS: usize = 64;
 
 /// Whether the search showed that a claim has no bad closed walk. It is for small claims, since it compares rows one by one.
-fn is_shown_small(alloc: Global, game: &ForwardGame, claim: &Claim) -> Result<bool, AllocError>
+fn is_shown_small(alloc: Global, game: &ForwardGame, claim: &Claim) -> Result<bool, Memory>
     requires { HasShape game.now claim.now.player claim.now.rows }
     ensures { IfOk result (λ shown. shown ≡ true → NoneHas (OnBadWalk game.now claim.now.player (named claim.now.rows) (choice_in claim.now.rows))) }
 {
@@ -152,7 +165,7 @@ fn never_returns(
     start: u32,
     list: &mut Vec<u32>,
     steps: &mut usize,
-) -> Result<bool, AllocError>
+) -> Result<bool, Memory>
     requires shape { HasShape game.now claim.now.player claim.now.rows }
     requires start { start < length game.now }
     requires vertex { In (named claim.now.rows) start }
@@ -182,7 +195,7 @@ fn expand(
     v: u32,
     list: &mut Vec<u32>,
     steps: &mut usize,
-) -> Result<bool, AllocError>
+) -> Result<bool, Memory>
     requires shape { HasShape game.now claim.now.player claim.now.rows }
     requires start { start < length game.now }
     requires vertex { In (named claim.now.rows) v }
@@ -246,7 +259,7 @@ fn kept_of<'g>(
     alloc: Global,
     game: &'g ForwardGame,
     claim: &Claim,
-) -> Result<StrategyGraph<'g>, AllocError>
+) -> Result<StrategyGraph<'g>, Memory>
     requires { HasShape game.now claim.now.player claim.now.rows }
     ensures bad_cycle { IfOk result (λ k. (v : ℕ) → IsOnBadCycle k v
         ↔ OnBadWalk game.now claim.now.player (named claim.now.rows) (choice_in claim.now.rows) v) }

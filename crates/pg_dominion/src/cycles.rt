@@ -12,20 +12,20 @@
 ghost use Rattle.std.specs.Prelude.{◌≡◌, ℕ, ◌<◌, ◌≤◌, IfOk, IfSome, MatchOption, Some, None, length, true, false, ◌≢◌, ◌^◌, ◌⊎◌, ◌↔◌, IsTrue, slice_index};
 ghost use Rattle.pg_game.specs.Least.{NoneHas, IsLeast};
 ghost use Rattle.pg_dominion.specs.KeptEdges.{IsOnBadCycle};
-ghost use Rattle.pg_dominion.specs.private.KeptEdges.{Reaches, IsBounded, Leads, AreLabelled, GoesOn, AreNoted, label_lists, reached_lists};
-ghost use Rattle.pg_dominion.specs.private.SearchProgress.{IsSearched};
+ghost use Rattle.pg_dominion.specs.private.KeptEdges.{Reaches, IsBounded, Leads, AreLabelled, GoesOn, AreNoted, IsSearched, label_lists, reached_lists};
 ghost use Rattle.pg_game.specs.Graph.{priority_of};
 
 use crate::peeling::find_ranking;
 use crate::ranking::is_ranked;
 use crate::strategy_graph::StrategyGraph;
-use std::alloc::{AllocError, Global};
+use pg_game::Memory;
+use std::alloc::Global;
 
 /// The least bad vertex that is the greatest on a closed walk through it.
 ///
 /// In most games a search from each bad vertex ends soon. If searches look again and again at reached vertices, a ranking
 /// gives the result in near-linear time, with the memory of their tables. The only error is refused memory.
-pub fn least_bad_vertex(alloc: Global, kept: &StrategyGraph) -> Result<Option<u32>, AllocError>
+pub fn least_bad_vertex(alloc: Global, kept: &StrategyGraph) -> Result<Option<u32>, Memory>
     ensures { IfOk result (λ least. MatchOption least (NoneHas (IsOnBadCycle kept.now)) (IsLeast (IsOnBadCycle kept.now))) }
 {
     let patience = u64::from(kept.game.len()) / 4;
@@ -49,7 +49,7 @@ fn search_from(
     kept: &StrategyGraph,
     from: u32,
     patience: u64,
-) -> Result<SearchProgress, AllocError>
+) -> Result<SearchProgress, Memory>
     requires none { (v : ℕ) → v < from → IsOnBadCycle kept.now v → ⊥ }
     ensures { IfOk result (IsSearched kept.now patience) }
 {
@@ -100,7 +100,7 @@ struct Searches<'k, 'g> {
 
 impl<'k, 'g> Searches<'k, 'g> {
     /// No search has been made yet.
-    fn new(alloc: Global, kept: &'k StrategyGraph<'g>) -> Result<Searches<'k, 'g>, AllocError>
+    fn new(alloc: Global, kept: &'k StrategyGraph<'g>) -> Result<Searches<'k, 'g>, Memory>
         ensures { IfOk result (λ s. s.labels.kept.now ≡ kept.now) }
     {
         Ok(Searches {
@@ -111,7 +111,7 @@ impl<'k, 'g> Searches<'k, 'g> {
 
     /// Whether the vertex is bad and the greatest on a closed walk through it. Each search takes about twice its first edges off
     /// the repeats, so that many short searches do not pay for long ones.
-    fn find_bad_cycle(&mut self, v: u32) -> Result<bool, AllocError>
+    fn find_bad_cycle(&mut self, v: u32) -> Result<bool, Memory>
         requires { v < length self.old.labels.kept.now.game.now }
         ensures graph { self.new.labels.kept.now ≡ self.old.labels.kept.now }
         ensures bad_cycle { IfOk result (λ found. IsTrue found ↔ IsOnBadCycle self.old.labels.kept.now v) }
@@ -126,7 +126,7 @@ impl<'k, 'g> Searches<'k, 'g> {
     }
 
     /// Whether a vertex is the greatest on a closed walk through it.
-    fn walks_back(&mut self, start: u32) -> Result<bool, AllocError>
+    fn walks_back(&mut self, start: u32) -> Result<bool, Memory>
         requires { start < length self.old.labels.kept.now.game.now }
         ensures graph { self.new.labels.kept.now ≡ self.old.labels.kept.now }
         ensures back { IfOk result (λ found. IsTrue found ↔ Reaches self.old.labels.kept.now start start) }
@@ -175,7 +175,7 @@ impl<'k, 'g> Labels<'k, 'g> {
     ghost use Rattle.pg_dominion.specs.private.Labels.{HasReached, IsSpreadAt};
 
     /// No search has shown anything yet.
-    fn new(alloc: Global, kept: &'k StrategyGraph<'g>) -> Result<Labels<'k, 'g>, AllocError>
+    fn new(alloc: Global, kept: &'k StrategyGraph<'g>) -> Result<Labels<'k, 'g>, Memory>
         ensures { IfOk result (λ l. l.kept.now ≡ kept.now) }
     {
         let n = kept.game.len();
@@ -208,7 +208,7 @@ impl<'k, 'g> Labels<'k, 'g> {
     }
 
     /// Searches for a way back to the first vertex of the queue. Returns whether there is one.
-    fn finds_back(&self, top: u32, own: u32, search: &mut WalkSearch) -> Result<bool, AllocError>
+    fn finds_back(&self, top: u32, own: u32, search: &mut WalkSearch) -> Result<bool, Memory>
         requires { HasReached self.now top own search.old }
         ensures state { HasReached self.now top own search.new }
         ensures first { IfOk result (λ found. slice_index search.new.queue.items 0 ≡ slice_index search.old.queue.items 0) }
@@ -228,13 +228,7 @@ impl<'k, 'g> Labels<'k, 'g> {
     }
 
     /// Continues the search for a way back to the queue's first vertex from a place of the queue. Returns whether there is one.
-    fn spread(
-        &self,
-        top: u32,
-        own: u32,
-        at: usize,
-        search: &mut WalkSearch,
-    ) -> Result<bool, AllocError>
+    fn spread(&self, top: u32, own: u32, at: usize, search: &mut WalkSearch) -> Result<bool, Memory>
         requires place { at < length search.old.queue.items }
         requires state { HasReached self.now top own search.old }
         ensures state { HasReached self.now top own search.new }
@@ -317,7 +311,7 @@ struct WalkSearch {
 
 impl WalkSearch {
     /// The tables of a graph with this number of vertices.
-    fn new(alloc: Global, n: u32) -> Result<WalkSearch, AllocError>
+    fn new(alloc: Global, n: u32) -> Result<WalkSearch, Memory>
         ensures { IfOk result (λ s. length s.places.items ≡ n) }
     {
         // The queue has capacity for all vertices, so that it frees no small blocks. The allocator would keep those, and the
@@ -368,7 +362,7 @@ fn note(levels: &mut Vec<u32>, groups: &mut Vec<u32>, search: &WalkSearch, level
 }
 
 /// Whether the vertex is the greatest on a closed walk through it, by a search with tables of its own.
-fn leads_back(alloc: Global, kept: &StrategyGraph, v: u32) -> Result<bool, AllocError>
+fn leads_back(alloc: Global, kept: &StrategyGraph, v: u32) -> Result<bool, Memory>
     requires { v < length kept.now.game.now }
     ensures { IfOk result (λ found. found ≡ true → Reaches kept.now v v) }
 {
@@ -382,14 +376,14 @@ fn first_by_ranking(
     alloc: Global,
     kept: &StrategyGraph,
     from: u32,
-) -> Result<Option<Option<u32>>, AllocError>
+) -> Result<Option<Option<u32>>, Memory>
     requires none { (v : ℕ) → v < from → IsOnBadCycle kept.now v → ⊥ }
     ensures { IfOk result (λ shown. IfSome shown (λ least. MatchOption least (NoneHas (IsOnBadCycle kept.now)) (IsLeast (IsOnBadCycle kept.now)))) }
 {
     let n = kept.game.len();
     let ranking = find_ranking(alloc, kept, from)?;
     let limit = ranking.limit;
-    if ranking.from > from || !is_ranked(alloc, kept, &ranking)? {
+    if !is_ranked(alloc, kept, &ranking, from)? {
         return Ok(None);
     }
     if limit >= n {

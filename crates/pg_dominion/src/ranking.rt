@@ -5,26 +5,31 @@
 //! priority of its source. If such a bad vertex is the greatest on a closed walk, the walk goes down from it and cannot come
 //! back over its place.
 
-ghost use Rattle.std.specs.Prelude.{◌≡◌, ℕ, ◌<◌, ◌≤◌, ◌^◌, length, slice_index, vec_len, IfOk, true, ◌↔◌, IsTrue};
+ghost use Rattle.std.specs.Prelude.{◌≡◌, ℕ, ◌<◌, ◌≤◌, ◌^◌, length, slice_index, IfOk, true, ◌↔◌, IsTrue};
 ghost use Rattle.pg_dominion.specs.KeptEdges.{IsOnBadCycle};
 ghost use Rattle.pg_dominion.specs.private.Ranking.{AreEnds, IsJudged, IsRankedRow};
 
 use crate::strategy_graph::StrategyGraph;
-use std::alloc::{AllocError, Global};
+use pg_game::Memory;
+use std::alloc::Global;
 
-/// Places of vertices, a key for each place, the first vertex of which they show something, and a limit: the least bad vertex
-/// after it of which they show nothing. A number after the last key is no place.
+/// Places of vertices, a key for each place, and a limit: the least bad vertex of which they show nothing. A number after the last
+/// key is no place.
 #[derive(Drop)]
 pub struct Ranking {
     pub places: Vec<u32>,
     pub keys: Vec<u32>,
-    pub from: u32,
     pub limit: u32,
 }
 
 /// Whether the places show that no bad vertex from `from` on and below the limit is the greatest on a closed walk.
-pub fn is_ranked(alloc: Global, kept: &StrategyGraph, ranking: &Ranking) -> Result<bool, AllocError>
-    ensures { IfOk result (λ b. b ≡ true → (v : ℕ) → ranking.now.from ≤ v → v < ranking.now.limit → IsOnBadCycle kept.now v → ⊥) }
+pub fn is_ranked(
+    alloc: Global,
+    kept: &StrategyGraph,
+    ranking: &Ranking,
+    from: u32,
+) -> Result<bool, Memory>
+    ensures { IfOk result (λ b. b ≡ true → (v : ℕ) → from ≤ v → v < ranking.now.limit → IsOnBadCycle kept.now v → ⊥) }
 {
     let n = kept.game.len();
     if ranking.places.len() != n as usize || ranking.keys.len() > n as usize {
@@ -33,7 +38,7 @@ pub fn is_ranked(alloc: Global, kept: &StrategyGraph, ranking: &Ranking) -> Resu
     let ends = next_greater(alloc, ranking.keys.as_slice())?;
     let ends = ends.as_slice();
     'vertices: for v in 0..n {
-        if !is_ranked_row(kept, ranking, ends, v) {
+        if !is_ranked_row(kept, ranking, ends, from, v) {
             return Ok(false);
         }
     }
@@ -41,7 +46,7 @@ pub fn is_ranked(alloc: Global, kept: &StrategyGraph, ranking: &Ranking) -> Resu
 }
 
 /// For each place a later one, before which no key is greater.
-fn next_greater(alloc: Global, keys: &[u32]) -> Result<Vec<u32>, AllocError>
+fn next_greater(alloc: Global, keys: &[u32]) -> Result<Vec<u32>, Memory>
     requires { length keys.now < 2 ^ 31 }
     ensures { IfOk result (λ e. AreEnds keys.now e.items) }
 {
@@ -77,16 +82,16 @@ fn end_of(keys: &[u32], ends: &[u32], at: u32) -> u32
 }
 
 /// Whether a vertex and its edges meet the conditions of a ranking.
-fn is_ranked_row(kept: &StrategyGraph, ranking: &Ranking, ends: &[u32], v: u32) -> bool
+fn is_ranked_row(kept: &StrategyGraph, ranking: &Ranking, ends: &[u32], from: u32, v: u32) -> bool
     requires vertex { v < length kept.now.game.now }
     requires places { length ranking.now.places.items ≡ length kept.now.game.now }
     requires ends { AreEnds ranking.now.keys.items ends.now }
-    ensures { result ≡ true → IsRankedRow kept.now ranking.now.from ranking.now.limit ranking.now.places.items ranking.now.keys.items v }
+    ensures { result ≡ true → IsRankedRow kept.now from ranking.now.limit ranking.now.places.items ranking.now.keys.items v }
 {
     let places = ranking.places.as_slice();
     let keys = ranking.keys.as_slice();
     let at = places[v as usize] as usize;
-    let is_judged = is_judged(kept, ranking, v);
+    let is_judged = is_judged(kept, ranking, from, v);
     if at >= keys.len() {
         return !is_judged;
     }
@@ -102,10 +107,10 @@ fn is_ranked_row(kept: &StrategyGraph, ranking: &Ranking, ends: &[u32], v: u32) 
     goes_down || (end <= ends[at] as usize && keys[at] <= twice)
 }
 
-/// Whether a vertex is bad, and one of those of which the ranking shows something.
-fn is_judged(kept: &StrategyGraph, ranking: &Ranking, v: u32) -> bool
+/// Whether a vertex is bad, from `from` on and below the limit.
+fn is_judged(kept: &StrategyGraph, ranking: &Ranking, from: u32, v: u32) -> bool
     requires vertex { v < length kept.now.game.now }
-    ensures { IsTrue result ↔ IsJudged kept.now ranking.now.from ranking.now.limit v }
+    ensures { IsTrue result ↔ IsJudged kept.now from ranking.now.limit v }
 {
-    ranking.from <= v && v < ranking.limit && kept.bad.has(v)
+    from <= v && v < ranking.limit && kept.bad.has(v)
 }

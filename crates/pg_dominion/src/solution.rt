@@ -4,18 +4,18 @@
 //! for bad closed walks serves both, since such a walk stays with one winner.
 
 ghost use Rattle.std.specs.Prelude.{◌≡◌, ℕ, ◌<◌, ◌↔◌, length, OnOk, IfOk, IfErr, IfSome, MatchOption, IsTrue};
-ghost use Rattle.pg_game.specs.Least.{NoneHas, IsLeast};
+ghost use Rattle.pg_game.specs.Least.{NoneHas, IsFirstEdge, IsLeast};
 ghost use Rattle.pg_text.specs.Solution.{IsSolution, winner_of, choice_of};
-ghost use Rattle.pg_text.specs.Verdict.{LacksChoice, HasBadChoice, Leaves, IsFirstLeaving};
+ghost use Rattle.pg_text.specs.Verdict.{LacksChoice, HasBadChoice, Leaves};
 ghost use Rattle.pg_dominion.specs.Verdict.{FailsBy};
 ghost use Rattle.pg_dominion.specs.private.JointStrategy.{IsJointStrategy, LeavesTo};
 
 use crate::cycles::least_bad_vertex;
 use crate::notes::{is_bad, own_choice};
 use crate::strategy_graph::StrategyGraph;
-use pg_game::{ForwardGame, Game, Player};
+use pg_game::{ForwardGame, Game, Memory, Player};
 use pg_text::Solution;
-use std::alloc::{AllocError, Global};
+use std::alloc::Global;
 
 /// Why winners and choices are no solution, by identifiers. The first that applies is returned, for the least vertex and
 /// then the least successor, but `Memory` may come in place of any.
@@ -33,13 +33,13 @@ pub enum SolutionFault {
     Memory,
 }
 
-impl From<AllocError> for SolutionFault {
+impl From<Memory> for SolutionFault {
     ghost use Rattle.std.specs.Prelude.{◌≡◌};
     ghost use Rattle.pg_dominion.specs.declared.solution.SolutionFault.{SolutionFault};
 
     ghost from_gives = { λ _ f. f ≡ SolutionFault.Memory };
 
-    fn from(_error: AllocError) -> SolutionFault {
+    fn from(_error: Memory) -> SolutionFault {
         SolutionFault::Memory
     }
 }
@@ -166,10 +166,7 @@ fn has_bad_choice(candidate: &Candidate, v: u32) -> bool
 }
 
 /// The kept edges of all winners, where each has his choices.
-fn joint_strategy<'g>(
-    alloc: Global,
-    candidate: &Candidate<'g>,
-) -> Result<StrategyGraph<'g>, AllocError>
+fn joint_strategy<'g>(alloc: Global, candidate: &Candidate<'g>) -> Result<StrategyGraph<'g>, Memory>
     requires choices { NoneHas (LacksChoice candidate.now.game.now candidate.now.solution.now.rows) }
     requires right { NoneHas (HasBadChoice candidate.now.game.now candidate.now.solution.now.rows) }
     ensures game { IfOk result (λ k. k.game.now ≡ candidate.now.game.now) }
@@ -188,7 +185,7 @@ fn joint_strategy<'g>(
 /// The least vertex from which a kept edge leads to the other winner, and the least vertex to which one does.
 fn first_leaving(joint: &JointStrategy) -> Option<(u32, u32)>
     ensures first { MatchOption result ((v w : ℕ) → Leaves joint.now.kept.now.game.now joint.now.solution.now.rows v w → ⊥)
-        (λ e. IsFirstLeaving joint.now.kept.now.game.now joint.now.solution.now.rows e.0 e.1) }
+        (λ e. IsFirstEdge (Leaves joint.now.kept.now.game.now joint.now.solution.now.rows) e.0 e.1) }
     ensures within { IfSome result (λ e. (e.0 < length joint.now.kept.now.game.now) × (e.1 < length joint.now.kept.now.game.now)) }
 {
     'vertices: for v in 0..joint.kept.game.len() {

@@ -4,8 +4,8 @@ ghost use Rattle.std.specs.Prelude.{◌≡◌, ℕ, ◌<◌, ◌^◌, length, sl
 ghost use Rattle.pg_dominion.specs.Kept.{IsKept};
 
 use crate::notes::note_test;
-use pg_game::{ForwardGame, Mask};
-use std::alloc::{AllocError, Global};
+use pg_game::{ForwardGame, Mask, Memory};
+use std::alloc::Global;
 
 /// The edges that are kept of a game: from a vertex with a choice the edge to it, from another vertex
 /// inside all edges, and none from a vertex outside. A vertex is bad where its priority has the wrong parity.
@@ -22,7 +22,7 @@ impl<'g> StrategyGraph<'g> {
     ghost use Rattle.pg_dominion.specs.KeptEdges.{kept_row, KeepsNothing, IsKeptWith};
 
     /// No edge is kept yet, and no vertex is bad. The only error is refused memory.
-    pub fn new(alloc: Global, game: &'g ForwardGame) -> Result<StrategyGraph<'g>, AllocError>
+    pub fn new(alloc: Global, game: &'g ForwardGame) -> Result<StrategyGraph<'g>, Memory>
         ensures game { IfOk result (λ k. k.game.now ≡ game.now) }
         ensures nothing { IfOk result KeepsNothing }
     {
@@ -66,7 +66,7 @@ impl<'g> StrategyGraph<'g> {
     }
 }
 
-/// By hand, so that letting one go is one step in the proofs of callers, and not one for each list.
+/// Written by hand, so that dropping a value is one step in the proofs of callers, and not one for each list.
 impl<'g> Drop for StrategyGraph<'g> {
     fn drop(self) {
         let StrategyGraph {

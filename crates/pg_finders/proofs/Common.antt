@@ -13,6 +13,7 @@ pub use Rattle.std.proofs.lemmas.List.{take-append-drop, take-append-le, take_al
 pub use Rattle.std.proofs.lemmas.List.Elements.{Contains-get_or}
 pub use Rattle.std.proofs.lemmas.List.Sums.{count_by-le-length}
 pub use Rattle.std.proofs.lemmas.Result.{on_ok_weaker}
+pub use Rattle.std.specs.Cmp.{both_ways}
 pub use Rattle.std.specs.List.{Contains, count_by, range_with_len}
 pub use Rattle.std.specs.List.Sorted.{IsNonDecreasingBy}
 pub use Rattle.std.specs.Prelude.{IfOk, IfSome, IsNone, None, Option, Some, if◌then◌else◌, min, slice_index_or, slice_set, ◌==◌}
@@ -38,24 +39,23 @@ pub use Rattle.pg_dominion.specs.Claim.{ClaimRows, IsGoodIn, choice_in, named, r
 pub use Rattle.pg_dominion.specs.declared.claim.Claim.{Claim}
 pub use Rattle.pg_dominion.specs.declared.strategy_graph.StrategyGraph.{StrategyGraph}
 pub use Rattle.pg_finders.specs.Claims.{AreClaims, rows_below}
-pub use Rattle.pg_finders.specs.Finding.{AtMostInside, IsLoop, IsSolitaire, most_choices}
+pub use Rattle.pg_finders.specs.Finding.{IsLoop, IsSolitaire, most_choices}
 pub use Rattle.pg_finders.specs.Jobs.{IsOfSmall}
 pub use Rattle.pg_finders.specs.declared.recursion.subgame.Plan.{Plan}
 pub use Rattle.pg_finders.specs.declared.recursion.Frame.{Frame}
 pub use Rattle.pg_finders.specs.private.Solved.{IsAttracted, IsBegun, IsSolvedInside, IsSolvedTo, Winners, WinsOn, won_inside}
-pub use Rattle.pg_finders.specs.private.loops.Singles.{itself, loops}
+pub use Rattle.pg_finders.specs.private.Singles.{itself, loops}
 pub use Rattle.pg_finders.specs.private.recursion.TakenVertices.{AttractsNoActive, Before, HasTaken, IsReady, IsTested, active_of, place}
 pub use Rattle.pg_finders.specs.private.recursion.Listed.{Apart, Once, listed}
-pub use Rattle.pg_finders.specs.private.recursion.Order.{AllStand, AreDistinct, AreGreatest, AreVertices, IsLast, IsOrder, priority_at, vertex_at_place}
-pub use Rattle.pg_finders.specs.private.recursion.Plans.{HasBelow, IsGiven, SameAt, SameOutside, choices_of, winners_of}
+pub use Rattle.pg_finders.specs.private.recursion.Order.{AllStand, AreDistinct, AreGreatest, AreVertices, IsLast, IsOrder, priority_at}
+pub use Rattle.pg_finders.specs.private.recursion.Plans.{IsGiven, SameAt, SameOutside, choices_of, winners_of}
 pub use Rattle.pg_finders.specs.private.recursion.SolverState.{IsAtEnd, IsSolverState, how_many_gone, AreFewer, number_left}
 pub use Rattle.pg_finders.specs.private.recursion.Settled.{SettledLists, settled_of}
 pub use Rattle.pg_finders.specs.private.recursion.OpenLevels.{AreApart, AreOpenLevels, Linked, count_at, gone, level_at, part, prefix}
 pub use Rattle.pg_finders.specs.private.recursion.Levels.{Level, AreLevels}
 pub use Rattle.pg_finders.specs.Steps.{steps, steps_after, steps_left, work}
-pub use Rattle.pg_finders.specs.private.small.Partial.{AreDifferentRows, Extends, ExtendsChoices, IsPartial}
+pub use Rattle.pg_finders.specs.private.small.Partial.{AreDifferentRows, AddsRows, ExtendsChoices, IsPartial}
 pub use Rattle.pg_finders.specs.private.small.SearchSteps.{HasNoCapacity, NoneAgreesAt, StillAgreesAt}
-pub use Rattle.pg_finders.specs.private.small.Small.{LeastSoFar}
 pub use Rattle.pg_finders.specs.private.small.Walked.{IsFrom, IsReached, RowLeadsTo, Under, WalksBack}
 pub use Rattle.pg_finders.specs.private.solitaire.Leading.{Follows, IsQueue}
 pub use Rattle.pg_finders.specs.private.solitaire.Solitaire.{AreLeading, EdgeBelow, HasOneAt, IsForcedBelow, IsSeen, IsSingle, choices_by}

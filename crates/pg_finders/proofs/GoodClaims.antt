@@ -3,11 +3,11 @@ use Rattle.pg_finders.proofs.Common.{rules, ◌≡◌, ℕ, zero, suc, ◌<◌, 
 use Rattle.pg_finders.proofs.Common.{subst, ltb-true, None, if◌then◌else◌, Contains, cases_Bool, Player, Even, Odd, same_player, Graph, HasEdge}
 use Rattle.pg_finders.proofs.Common.{owner_of, successors_of, VertexSet, In, IsSubgame, Choices, kept, option_list, KeptEdge, ClosedWalk-weaker, own_or_other}
 use Rattle.pg_finders.proofs.Common.{same_is, is_same, Claim, ClaimRows, named, choice_in, IsGoodIn, Winners, won_inside, WinsOn, IsSolvedInside, AreClaims}
-use Rattle.pg_finders.proofs.Common.{own_choices, rows_below}
+use Rattle.pg_finders.proofs.Common.{own_choices, rows_below, both_ways}
 use Rattle.std.specs.List.{All}
 use Rattle.std.proofs.lemmas.List.Elements.{All-nil, All-push, recursion_from_All}
 use Rattle.pg_dominion.specs.Claim.{AreRight, IsRightRow}
-use Rattle.pg_finders.proofs.Sets.{not_same, equal_from}
+use Rattle.pg_finders.proofs.Sets.{not_same}
 use Rattle.pg_finders.proofs.SolvedSubgames.{kept_leads, choice_leads, Holds-subst}
 use Rattle.pg_finders.proofs.Rows.{RowsOf, rows_of_below}
 
@@ -54,7 +54,7 @@ module _ (g : Graph) (U : VertexSet) (p : Player) (X : VertexSet) (s : Choices) 
   facts = rows_of_below X t (length g)
 
   pub rows_named : (v : ℕ) → named rows v ≡ X v
-  rows_named v = equal_from (named rows v) (X v) (λ m. (facts.named_only v m).0) (λ x. facts.names v x (inside v (held.within v x)))
+  rows_named v = both_ways (named rows v) (X v) (λ m. (facts.named_only v m).0) (λ x. facts.names v x (inside v (held.within v x)))
 
   own_kept : (v : ℕ) → owner_of g v ≡ p → t v ≡ s v
   own_kept v o = rw (is_same (owner_of g v) p o) refl

@@ -3,9 +3,9 @@ use Rattle.pg_finders.proofs.Common.{◌≡◌, ℕ, ◌<◌, ◌≤◌, Bool, t
 use Rattle.pg_finders.proofs.Common.{if◌then◌else◌, Contains, and-true, and_parts, and_from, cases_Bool, Player, opponent, same_player, of_parity, Graph}
 use Rattle.pg_finders.proofs.Common.{HasEdge, owner_of, priority_of, successors_of, VertexSet, In, no_vertices, without, IsSubgame, Choices, kept, option_list}
 use Rattle.pg_finders.proofs.Common.{KeptEdge, OnlyGoodWalks, some_or_none, ClosedWalk-weaker, own_or_other, same_is, is_same, Winners, won_inside, WinsOn}
-use Rattle.pg_finders.proofs.Common.{IsSolvedInside, IsSolvedTo, IsAttracted, IsBegun}
+use Rattle.pg_finders.proofs.Common.{IsSolvedInside, IsSolvedTo, IsAttracted, IsBegun, both_ways}
 use Rattle.pg_game.proofs.Members.{Contains-one}
-use Rattle.pg_finders.proofs.Sets.{not_both, twice, not_same, only, minus, back, unless, no_both, equal_from}
+use Rattle.pg_finders.proofs.Sets.{not_both, twice, not_same, only, minus, back, unless, no_both}
 use Rattle.pg_finders.proofs.ClosedWalks.{Among, closed_among, closed_inside, closed_begins, in_or_out, never_falls, never_empty, greatest_kept}
 
 -- where a kept edge leads: along the player's choice, or along any edge of the opponent's vertex
@@ -197,7 +197,7 @@ module _ (g : Graph) (q : Player) (U A L B : VertexSet) (won : Winners) (s t : C
     rest = λ v i. (only (U v) (B v) i).0;
     holds = λ p. elim (own_or_other q p) [
       | inl e ↦ subst (λ x. WinsOn g U x (won_inside (without U (without U B)) won x) t) e
-          (Holds-subst (λ v. equal_from (B v) (won_inside (without U (without U B)) won q v) (put v)
+          (Holds-subst (λ v. both_ways (B v) (won_inside (without U (without U B)) won q v) (put v)
           (λ i. taken v (and_parts (without U (without U B) v) (same_player (won v) q) i).0)) grown_held)
       | inr e ↦ Holds-none (λ v i.
           (let b = and_parts (without U (without U B) v) (same_player (won v) p) i in
@@ -259,7 +259,7 @@ module _ (g : Graph) (p : Player) (U T A : VertexSet) (won : Winners) (s : Choic
 
   pub solved_all : ((v : ℕ) → In U v → won v ≡ p) → IsSolvedTo g U no_vertices won s
   solved_all his = whole_solved (λ q. elim (own_or_other p q) [
-    | inl e ↦ subst (λ x. WinsOn g U x (won_inside U won x) s) e (Holds-subst (λ v. equal_from (U v) (won_inside U won p v)
+    | inl e ↦ subst (λ x. WinsOn g U x (won_inside U won x) s) e (Holds-subst (λ v. both_ways (U v) (won_inside U won p v)
         (λ i. and_from (U v) (same_player (won v) p) i (is_same (won v) p (his v i))) (λ i. (and_parts (U v) (same_player (won v) p) i).0)) all_held)
     | inr e ↦ Holds-none (λ v i. (let b = and_parts (U v) (same_player (won v) q) i in not_both p q (sym (his v b.0) ∙ same_is (won v) q b.1) e))
   ])
@@ -327,7 +327,7 @@ module _ {g : Graph} {U T L : VertexSet} {p : Player} {won : Winners} {s : Choic
       (λ v u. elim (cases_Bool (L v)) [ inl l ↦ his v l | inr n ↦ begun.his v (minus u n) ])
     where
       mine : (v : ℕ) → won_inside L won p v ≡ without U A v
-      mine v = equal_from (won_inside L won p v) (without U A v) (λ i. left_is v ∙ (and_parts (L v) (same_player (won v) p) i).0)
+      mine v = both_ways (won_inside L won p v) (without U A v) (λ i. left_is v ∙ (and_parts (L v) (same_player (won v) p) i).0)
           (λ i. (let l : L v ≡ true = sym (left_is v) ∙ i in and_from (L v) (same_player (won v) p) l (is_same (won v) p (his v l))))
 
       rest : WinsOn g (without U A) p (without U A) s

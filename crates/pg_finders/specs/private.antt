@@ -4,4 +4,4 @@ pub mod DeadEnds
 pub mod recursion
 pub mod small
 pub mod solitaire
-pub mod loops
+pub mod Singles

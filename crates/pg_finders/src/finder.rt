@@ -13,8 +13,8 @@ use crate::recursion::zielonka;
 use crate::small::{Small, find_small};
 use crate::solitaire::find_solitaire;
 use pg_dominion::Claim;
-use pg_game::Player;
-use std::alloc::{AllocError, Global};
+use pg_game::{Memory, Player};
+use std::alloc::Global;
 
 /// A job for a worker.
 #[derive(Clone, Copy, Debug, Drop, PartialEq, Eq)]
@@ -46,19 +46,18 @@ pub struct Found {
 /// Searches for dominions in a copy. No contract promises anything of its claims.
 pub trait Finder: Sync {
     /// Claims for a job on a copy. The only error is `Memory`.
-    fn find(&self, alloc: Global, copied: &Copied, job: &Job) -> Result<Found, AllocError>;
+    fn find(&self, alloc: Global, copied: &Copied, job: &Job) -> Result<Found, Memory>;
 }
 
 /// Searches by the finders of this crate. It is safe for any job on any copy.
 ///
-/// For `Loops` and `Recursion` it returns Even's claim and then Odd's, each if there is one; for `Solitaire` and `Small`
-/// the one claim or none. In a `Small` job it leaves out seeds that are no vertices of the copy's game, finds nothing
-/// for bound 0 and takes a bound above 8 as 8.
+/// `Loops` and `Recursion` give up to two claims, Even's first, and `Solitaire` and `Small` at most one. A `Small` job skips
+/// seeds that are no vertices of the copy's game. Its bound counts as 8 if it is greater, and bound 0 finds nothing.
 #[derive(Clone, Copy, Debug, Drop)]
 pub struct Standard;
 
 impl Finder for Standard {
-    fn find(&self, alloc: Global, copied: &Copied, job: &Job) -> Result<Found, AllocError>
+    fn find(&self, alloc: Global, copied: &Copied, job: &Job) -> Result<Found, Memory>
         ensures loops { IfOk result (λ found. IfLoops job.now (AreLoops copied.now.inside.graph (members copied.now.inside.mask) found.claims.items)) }
         ensures solitaire { IfOk result (λ found. IfSolitaire job.now
             (AreOfSolitaire copied.now.inside.graph (members copied.now.inside.mask) found.claims.items)) }
@@ -96,7 +95,7 @@ impl Finder for Standard {
 }
 
 /// The claims, in order, without giving up.
-fn all_of(alloc: Global, first: Option<Claim>, second: Option<Claim>) -> Result<Found, AllocError>
+fn all_of(alloc: Global, first: Option<Claim>, second: Option<Claim>) -> Result<Found, Memory>
     ensures claims { IfOk result (λ found. found.claims.items ≡ option_to_list first ++ option_to_list second) }
     ensures gave_up { IfOk result (λ found. found.gave_up ≡ false) }
 {
@@ -114,7 +113,7 @@ fn all_of(alloc: Global, first: Option<Claim>, second: Option<Claim>) -> Result<
 }
 
 /// The vertices below `n` from `first` on, at most `count` of them.
-fn batch(alloc: Global, n: u32, first: u32, count: u32) -> Result<Vec<u32>, AllocError>
+fn batch(alloc: Global, n: u32, first: u32, count: u32) -> Result<Vec<u32>, Memory>
     ensures seeds { IfOk result (λ seeds. seeds.items ≡ seeds_of n first count) }
     ensures below { IfOk result (λ seeds. (k : ℕ) → k < length seeds.items → slice_index seeds.items k < n) }
 {
@@ -134,7 +133,7 @@ fn small_of(
     seeds: &[u32],
     bound: u32,
     budget: u64,
-) -> Result<Found, AllocError>
+) -> Result<Found, Memory>
     requires { (k : ℕ) → k < length seeds.now → slice_index seeds.now k < length inside.now.graph }
     ensures { IfOk result (λ found. IsOfSmall inside.now.graph (members inside.now.mask) player seeds.now
         (min bound 8) budget found.claims.items found.gave_up) }

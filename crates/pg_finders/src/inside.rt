@@ -8,8 +8,7 @@ ghost use Rattle.pg_game.specs.Least.{IsLeast};
 ghost use Rattle.pg_finders.specs.Part.{IsPart, IsDeadEnd, IsOut};
 ghost use Rattle.pg_finders.specs.private.DeadEnds.{HasNoDeadEnd};
 
-use pg_dominion::Claim;
-use pg_game::{Game, Mask, Player, Sequence};
+use pg_game::{Game, Mask};
 use std::marker::Model;
 
 /// A game and a subgame of it.
@@ -56,7 +55,7 @@ impl<'g> Inside<'g> {
         Inside { game, mask }
     }
 
-    /// Both, borrowed.
+    /// Borrows the game and the mask.
     pub(crate) fn view(&self) -> View<'_>
         ensures graph { result.game.now ≡ self.now.graph }
         ensures mask { result.mask.now ≡ self.now.mask }
@@ -114,15 +113,4 @@ pub fn successor_in(game: &Game, inside: &Mask, v: u32) -> Option<u32>
         }
     }
     None
-}
-
-/// The player's claim of these rows.
-pub fn claim_of(player: Player, rows: Vec<(u32, Option<u32>)>) -> Claim
-    ensures player { result.player ≡ player }
-    ensures rows { result.rows ≡ rows.items }
-{
-    Claim {
-        player,
-        rows: Sequence::new(rows),
-    }
 }

@@ -3,40 +3,26 @@
 //! A vertex alone is a player's dominion in a subgame if its priority has his parity and the play can stay there: by
 //! his own loop, or because the opponent has no other successor inside. All of them together are one claim.
 
-ghost use Rattle.std.specs.Prelude.{◌≡◌, ℕ, ◌<◌, ◌↔◌, ◌&&◌, length, IfOk, IsTrue, MatchOption, Some};
+ghost use Rattle.std.specs.Prelude.{◌≡◌, ℕ, ◌<◌, ◌↔◌, ◌&&◌, length, IfOk, IsTrue, Some};
 ghost use Rattle.pg_game.specs.declared.player.Player.{Player};
-ghost use Rattle.pg_game.specs.declared.player.Player.TheVariants.{Even, Odd};
-ghost use Rattle.pg_game.specs.Player.{of_parity, same_player};
-ghost use Rattle.pg_game.specs.Graph.{HasEdge, owner_of, priority_of};
+ghost use Rattle.pg_game.specs.Player.{of_parity};
+ghost use Rattle.pg_game.specs.Graph.{HasEdge};
 ghost use Rattle.pg_game.specs.VertexSet.{In, members};
-ghost use Rattle.pg_game.specs.Least.{NoneHas};
-ghost use Rattle.pg_dominion.specs.Claim.{IsGoodIn, named, choice_in};
 ghost use Rattle.pg_finders.specs.Claims.{rows_below};
 ghost use Rattle.pg_dominion.specs.KeptEdges.{own_choices};
-ghost use Rattle.pg_finders.specs.Finding.{IsLoop};
 ghost use Rattle.pg_finders.specs.Jobs.{AreLoopsOf};
 ghost use Rattle.pg_finders.specs.Part.{IsPart};
-ghost use Rattle.pg_finders.specs.private.loops.Singles.{itself, loops};
+ghost use Rattle.pg_finders.specs.private.Singles.{itself, loops};
 
-use crate::inside::{Inside, claim_of};
+use crate::inside::Inside;
 use pg_dominion::{Claim, own_choice};
-use pg_game::Player;
-use std::alloc::{AllocError, Global};
+use pg_game::{Memory, Player};
+use std::alloc::Global;
 
 /// The vertices that alone are the player's dominions, each with itself as the choice if he owns it.
 /// None if there is no such vertex. The only error is `Memory`.
-pub fn find_loop(
-    alloc: Global,
-    inside: &Inside,
-    player: Player,
-) -> Result<Option<Claim>, AllocError>
-    ensures player { IfOk result (λ found. MatchOption found (Unit {0}) (λ claim. claim.player ≡ player)) }
-    ensures none { IfOk result (λ found. MatchOption found (NoneHas (IsLoop inside.now.graph (members inside.now.mask) player)) (λ claim. Unit {0})) }
-    ensures loops { IfOk result (λ found. MatchOption found (Unit {0})
-        (λ claim. (v : ℕ) → In (named claim.rows) v ↔ IsLoop inside.now.graph (members inside.now.mask) player v)) }
-    ensures choices { IfOk result (λ found. MatchOption found (Unit {0})
-        (λ claim. (v : ℕ) → In (named claim.rows) v → owner_of inside.now.graph v ≡ player → choice_in claim.rows v ≡ Some v)) }
-    ensures good { IfOk result (λ found. MatchOption found (Unit {0}) (λ claim. IsGoodIn inside.now.graph (members inside.now.mask) player claim.rows)) }
+pub fn find_loop(alloc: Global, inside: &Inside, player: Player) -> Result<Option<Claim>, Memory>
+    ensures { IfOk result (AreLoopsOf inside.now.graph (members inside.now.mask) player) }
 {
     let game = inside.game();
     let mut rows = Vec::new(alloc);
@@ -89,5 +75,5 @@ fn claim_of_loops(inside: &Inside, player: Player, rows: Vec<(u32, Option<u32>)>
     if rows.is_empty() {
         return None;
     }
-    Some(claim_of(player, rows))
+    Some(Claim::new(player, rows))
 }

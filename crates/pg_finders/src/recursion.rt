@@ -4,10 +4,10 @@
 //! something has changed on which it rests (Lapauw, Bruynooghe and Denecker 2020; `parts` does that). A step takes time in what
 //! it attracts and makes active again. A caller may bound the number of subgames that are begun.
 
-ghost use Rattle.std.specs.Prelude.{◌≡◌, length, IfOk, ◌≢◌, ◌≤◌, ◌+◌, ◌<◌, ◌^◌, take, ◌||◌, ℕ, All, ◌++◌, ◌∷◌, [], OnOk, true, false};
+ghost use Rattle.std.specs.Prelude.{◌≡◌, length, IfOk, ◌≢◌, ◌≤◌, ◌+◌, ◌<◌, ◌^◌, take, ℕ, All, OnOk, true, false};
 ghost use Rattle.std.specs.Prelude.{None, Some, IsNone, IsSome, IfSome};
 ghost use Rattle.pg_game.specs.declared.player.Player.TheVariants.{Even, Odd};
-ghost use Rattle.pg_game.specs.VertexSet.{In, Within, members, how_many, union, without};
+ghost use Rattle.pg_game.specs.VertexSet.{In, Within, members, how_many, union};
 ghost use Rattle.pg_finders.specs.private.Solved.{won_inside, IsSolvedInside};
 ghost use Rattle.pg_finders.specs.private.recursion.Plans.{winners_of, choices_of, HasSize};
 ghost use Rattle.pg_finders.specs.Claims.{AreClaims, rows_below};
@@ -30,7 +30,7 @@ mod parts;
 mod settled;
 mod subgame;
 
-use crate::inside::{Inside, View, claim_of};
+use crate::inside::{Inside, View};
 use crate::recursion::order::Order;
 use crate::recursion::parts::{Parts, list_active};
 use crate::recursion::settled::Settled;
@@ -71,8 +71,8 @@ pub fn zielonka_within(
 {
     if inside.mask().is_empty() {
         return Ok(Some(Solved {
-            even: claim_of(Player::Even, Vec::new(alloc)),
-            odd: claim_of(Player::Odd, Vec::new(alloc)),
+            even: Claim::new(Player::Even, Vec::new(alloc)),
+            odd: Claim::new(Player::Odd, Vec::new(alloc)),
         }));
     }
     let view = inside.view();
@@ -228,8 +228,8 @@ impl Solver {
         let plan = &self.parts.subgame.plan;
         let (even, odd) = rows_of(alloc, view, plan, for_even, for_odd)?;
         Ok(Some(Solved {
-            even: claim_of(Player::Even, even),
-            odd: claim_of(Player::Odd, odd),
+            even: Claim::new(Player::Even, even),
+            odd: Claim::new(Player::Odd, odd),
         }))
     }
 

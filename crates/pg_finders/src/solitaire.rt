@@ -16,18 +16,17 @@ ghost use Rattle.pg_finders.specs.private.solitaire.Solitaire.{HasOneAt, IsSingl
 ghost use Rattle.pg_game.specs.Walk.{Walk};
 ghost use Rattle.pg_finders.specs.private.solitaire.Leading.{IsQueue, Follows};
 
-use crate::inside::{Inside, View, claim_of};
+use crate::inside::{Inside, View};
 use pg_dominion::{Claim, StrategyGraph, is_bad, least_bad_vertex, own_choice};
-use pg_game::{Game, Mask, Player};
-use std::alloc::{AllocError, Global};
+use pg_game::{Game, Mask, Memory, Player};
+use std::alloc::Global;
 
 /// A claim of either player that is good in the subgame, if that has a vertex and one player has a single successor
 /// inside at each of his vertices inside, or has no vertex inside; else none. It need not have all vertices inside. The
 /// only error is `Memory`.
-pub fn find_solitaire(alloc: Global, inside: &Inside) -> Result<Option<Claim>, AllocError>
-    ensures none { IfOk result (λ found. MatchOption found (IsSolitaire inside.now.graph (members inside.now.mask) → ⊥)
-        (λ claim. IsSolitaire inside.now.graph (members inside.now.mask))) }
-    ensures good { IfOk result (λ found. MatchOption found (Unit {0}) (λ claim. IsGoodIn inside.now.graph (members inside.now.mask) claim.player claim.rows)) }
+pub fn find_solitaire(alloc: Global, inside: &Inside) -> Result<Option<Claim>, Memory>
+    ensures { IfOk result (λ found. MatchOption found (IsSolitaire inside.now.graph (members inside.now.mask) → ⊥)
+        (λ claim. IsSolitaire inside.now.graph (members inside.now.mask) × IsGoodIn inside.now.graph (members inside.now.mask) claim.player claim.rows)) }
 {
     let view = inside.view();
     if view.mask.is_empty() {
@@ -89,7 +88,7 @@ fn single_successor(view: &View, v: u32) -> Option<u32>
 }
 
 /// A claim that is good in the subgame, which has a vertex.
-fn solve(alloc: Global, solitaire: &Solitaire) -> Result<Claim, AllocError>
+fn solve(alloc: Global, solitaire: &Solitaire) -> Result<Claim, Memory>
     requires { (v : ℕ) × In (members solitaire.now.view.mask.now) v }
     ensures { IfOk result (λ claim. IsGoodIn solitaire.now.view.game.now (members solitaire.now.view.mask.now) claim.player claim.rows) }
 {
@@ -112,7 +111,7 @@ fn solve(alloc: Global, solitaire: &Solitaire) -> Result<Claim, AllocError>
 }
 
 /// The edges of the subgame, where the player has his single successors as choices, and his bad vertices.
-fn kept_of<'a>(alloc: Global, solitaire: &Solitaire<'a>) -> Result<StrategyGraph<'a>, AllocError>
+fn kept_of<'a>(alloc: Global, solitaire: &Solitaire<'a>) -> Result<StrategyGraph<'a>, Memory>
     ensures { IfOk result (IsForcedBelow solitaire.now.view.game.now (members solitaire.now.view.mask.now) solitaire.now.forced (length solitaire.now.view.game.now)) }
 {
     let view = &solitaire.view;
@@ -149,7 +148,7 @@ fn claim_of_set(
     player: Player,
     set: &Mask,
     next: &[u32],
-) -> Result<Claim, AllocError>
+) -> Result<Claim, Memory>
     requires set { length set.now ≡ length game.now }
     requires next { length next.now ≡ length game.now }
     ensures player { IfOk result (λ claim. claim.player ≡ player) }
@@ -162,11 +161,11 @@ fn claim_of_set(
             rows.push((v, own_choice(game.forward(), player, v, choice)))?;
         }
     }
-    Ok(claim_of(player, rows))
+    Ok(Claim::new(player, rows))
 }
 
 /// The vertices in the mask from which a walk leads to the goal over no greater priority than the goal's.
-fn lead_to(alloc: Global, view: &View, goal: u32) -> Result<Lead, AllocError>
+fn lead_to(alloc: Global, view: &View, goal: u32) -> Result<Lead, Memory>
     requires goal { goal < length view.now.game.now }
     ensures leading { IfOk result (λ lead.
         AreLeading view.now.game.now (members view.now.mask.now) (priority_of view.now.game.now goal) goal lead.taken lead.next.items) }
@@ -205,7 +204,7 @@ fn reach_back(
     to: u32,
     lead: &mut Lead,
     queue: &mut Vec<u32>,
-) -> Result<(), AllocError>
+) -> Result<(), Memory>
     requires goal { goal < length view.now.game.now }
     requires state { AreLeading view.now.game.now (members view.now.mask.now) (priority_of view.now.game.now goal) goal lead.old.taken lead.old.next.items }
     requires queue { IsQueue view.now.game.now goal lead.old.taken queue.old.items }

@@ -37,8 +37,8 @@ pub use Rattle.pg_game.specs.declared.specification.GameFault.{GameFault}
 pub use Rattle.pg_game.specs.declared.specification.Spec.{Spec}
 pub use Rattle.pg_game.specs.declared.player.Player.{Player}
 pub use Rattle.pg_game.specs.declared.player.Player.TheVariants.{Even, Odd}
-pub use Rattle.pg_game.specs.private.Gathered.{AreSums, HasCapacity, IsFilled, banded, is_in, once_in, partly, sources_below}
-pub use Rattle.pg_game.specs.private.Identifiers.{ArePlaces, first_outside, ids_of, owners_of, priorities_of, rows_fault, successor_lists}
+pub use Rattle.pg_game.specs.private.Gathered.{AreSums, HasCapacity, IsFilled, banded, is_in, once_in, sources_below}
+pub use Rattle.pg_game.specs.private.Identifiers.{first_outside, ids_of, owners_of, priorities_of, rows_fault, successor_lists}
 pub use Rattle.pg_game.specs.private.Lines.{AreLines, ArePaired}
 pub use Rattle.pg_game.specs.private.Resolved.{AreAllPlaces, AreNamed, AreNamedFrom, AreResolvedSpecs, IsResolvedSpec}
 pub use Rattle.pg_game.specs.private.Rows.{AreRisingRows, AreSources, IsCompressed, row_at, size_of}

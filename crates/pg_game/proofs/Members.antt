@@ -11,7 +11,7 @@ Contains-head x xs = (zero, omega arith, refl)
 pub Contains-tail : (x w : ℕ) (xs : List ℕ) → Contains xs w → Contains (x ∷ xs) w
 Contains-tail x w xs (k, lt, e) = (suc k, omega arith, e)
 
-pub Contains-cons : (x w : ℕ) (xs : List ℕ) → Contains (x ∷ xs) w → (x ≡ w) ⊎ Contains xs w
+pub Contains-cons : {A : Type 0} (x w : A) (xs : List A) → Contains (x ∷ xs) w → (x ≡ w) ⊎ Contains xs w
 Contains-cons x w xs x3 = search (rules)
 
 pub Contains-one : (x w : ℕ) → Contains (x ∷ []) w → x ≡ w

@@ -1,6 +1,6 @@
 -- Specifications without fault, test by test.
 use Rattle.pg_game.proofs.Common.{◌≡◌, ℕ, zero, suc, ◌+◌, ◌∙◌, ap, drop, get_or, drop_more, ◌==◌, false_from_ne_true, eqb-true, ◌<◌, ◌≤◌, Bool, true, false}
-use Rattle.pg_game.proofs.Common.{◌⊎◌, inl, inr, List, [], ◌∷◌, length, refl, sym, subst, arith, rules, Option}
+use Rattle.pg_game.proofs.Common.{inl, inr, List, [], ◌∷◌, length, refl, sym, subst, arith, rules, Option}
 use Rattle.pg_game.proofs.Common.{Some, None, if◌then◌else◌, nat_lt, Contains, ltb-false, le-ltb, lt-ltb, not-false, Spec, GameFault, first_fault, fault_or}
 use Rattle.pg_game.proofs.Common.{first_repeated, first_without, first_unknown, first_unspecified, IsSpecified, edges, max_vertices, max_edges, ids_of}
 use Rattle.pg_game.proofs.Common.{rows_fault}
@@ -17,9 +17,9 @@ pub record IsSound (specs : List Spec) : Type 0 where
   pub edges_fit : edges specs ≤ max_edges
   pub known : first_unknown specs specs ≡ None
 
-no_test : (b : Bool) (f : GameFault) (o : Option GameFault) → (if b then Some f else o) ≡ None → (b ≡ false) × (o ≡ None)
-no_test true f o e = absurd (cc e)
-no_test false f o e = (refl, e)
+pub none_or : {A : Type 0} (b : Bool) (a : A) (o : Option A) → (if b then Some a else o) ≡ None → (b ≡ false) × (o ≡ None)
+none_or true a o e = absurd (cc e)
+none_or false a o e = (refl, e)
 
 no_fault : {A : Type 0} (f : A → GameFault) (a : Option A) (o : Option GameFault) → fault_or f a o ≡ None → (a ≡ None) × (o ≡ None)
 no_fault f x1 o e = search (rules)
@@ -28,7 +28,7 @@ some_first : {X : Type 0} (xs : List X) → is_empty xs ≡ false → 0 < length
 some_first x0 e = search (rules)
 
 pub sound_is : (specs : List Spec) → first_fault specs ≡ None → IsSound specs
-sound_is specs e = search (rules, no_test, no_fault, some_first, ltb-false)
+sound_is specs e = search (rules, none_or, no_fault, some_first, ltb-false)
 
 pub not_empty : {X : Type 0} (xs : List X) → 0 < length xs → is_empty xs ≡ false
 not_empty x0 l = search (rules)
@@ -58,19 +58,12 @@ module _ (specs : List Spec) where
   pub rows_sound : first_without specs ≡ None → edges specs ≤ max_edges → first_unknown specs specs ≡ None → rows_fault specs ≡ None
   rows_sound e l f = rows_are _ _ _ e (le-ltb max_edges (edges specs) l) f
 
-head_of : (s t : Spec) (specs : List Spec) → Contains (s ∷ specs) t → (s ≡ t) ⊎ Contains specs t
-head_of s t specs x3 = search (rules)
-
-pub none_or : (b : Bool) (i : ℕ) (o : Option ℕ) → (if b then Some i else o) ≡ None → (b ≡ false) × (o ≡ None)
-none_or true i o e = absurd (cc e)
-none_or false i o e = (refl, e)
-
 -- each specification has a successor
 pub each_has : (specs : List Spec) → first_without specs ≡ None → (s : Spec) → Contains specs s → 0 < length s.successors
 each_has [] e s (k, l, q) = absurd (omega arith)
 each_has (t ∷ specs) e s m =
     let h = none_or (is_empty t.successors) t.id (first_without specs) e in
-    elim (head_of t s specs m) [
+    elim (Contains-cons t s specs m) [
       | inl q ↦ subst (λ (x : Spec). 0 < length x.successors) q (some_first t.successors h.0)
       | inr n ↦ each_has specs h.1 s n
     ]
@@ -93,7 +86,7 @@ pub each_known : (all specs : List Spec) → first_unknown all specs ≡ None �
 each_known all [] e s (k, l, q) i m = absurd (omega arith)
 each_known all (t ∷ specs) e s n i m =
     let h = none_pair t.id (first_unspecified all t.successors) (first_unknown all specs) e in
-    elim (head_of t s specs n) [
+    elim (Contains-cons t s specs n) [
       | inl q ↦ not-false (IsSpecified all i) (none_found (λ j. not (IsSpecified all j)) t.successors h.0 i
           (subst (λ (x : Spec). Contains x.successors i) (sym q) m))
       | inr r ↦ each_known all specs h.1 s r i m

@@ -4,13 +4,19 @@ use Rattle.pg_game.proofs.Common.{Contains, IsStrictlyIncreasing, sum_by-cons, l
 use Rattle.pg_game.proofs.Common.{IsPermutation-refl, slice_get-get_or, Spec, Graph, Vertex, IsGame, no_vertex, vertex_at, id_of, successors_of, IsGameOf}
 use Rattle.pg_game.proofs.Common.{IsVertexOf, number_of, edges, different, first_fault, IsWithinLimits, ids_of}
 use Rattle.std.proofs.lemmas.Option.{get_or_from_slice_get}
-use Rattle.pg_game.specs.Described.{spec_at, specs_of}
 use Rattle.pg_game.proofs.Members.{Contains-nil}
 use Rattle.pg_game.proofs.Different.{different_most}
 use Rattle.pg_game.proofs.builder.GamesInOrder.{none_repeated}
 use Rattle.pg_game.proofs.Sound.{sound_has_none, none_without, none_unknown}
 use Rattle.pg_game.proofs.builder.FirstUnknown.{to_specified}
 use Rattle.pg_game.proofs.adjacency.RisingLists.{number_is, same_rising}
+
+-- what describes a vertex: its successors by their identifiers
+abbrev pub spec_at : Graph → Vertex → Spec
+spec_at g x = record { id = x.id; priority = x.priority; owner = x.owner; successors = map (λ w. id_of g w) x.successors }
+
+abbrev pub specs_of : Graph → List Spec
+specs_of g = map (λ x. spec_at g x) g
 
 map-map : {X Y Z : Type 0} (f : X → Y) (h : Y → Z) (xs : List X) → map h (map f xs) ≡ map (λ x. h (f x)) xs
 map-map f h [] = refl

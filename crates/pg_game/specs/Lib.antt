@@ -16,5 +16,4 @@ pub mod Rows
 pub mod Same
 pub mod Flat
 pub mod Opened
-pub mod Described
 pub mod private

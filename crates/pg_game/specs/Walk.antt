@@ -9,7 +9,7 @@ abbrev pub Walk : (ℕ → ℕ → Type 0) → ℕ → List ℕ → ℕ → Type
 Walk Edge v [] end = Edge v end
 Walk Edge v (w ∷ ws) end = Edge v w × Walk Edge w ws end
 
--- a nonempty list of vertices with an edge from each to the next, and from the last to the first
+-- at least one vertex, each with an edge to the one after it, and the last with an edge to the first
 abbrev pub ClosedWalk : (ℕ → ℕ → Type 0) → List ℕ → Type 0
 ClosedWalk Edge [] = ⊥
 ClosedWalk Edge (v ∷ vs) = Walk Edge v vs v

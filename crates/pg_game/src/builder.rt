@@ -111,112 +111,7 @@ impl GameBuilder {
             rows,
         }
     }
-}
 
-/// Specifications in their order, and the successors of an open one.
-#[derive(Drop)]
-pub struct IncrementalBuilder {
-    ids: Vec<u32>,
-    priorities: Vec<u32>,
-    owners: Vec<Player>,
-    offsets: Vec<usize>,
-    closed: usize,
-    targets: Vec<u32>,
-}
-
-impl Model for IncrementalBuilder {
-    ghost use Rattle.pg_game.specs.Opened.{Opened, opened_from};
-    ghost use Rattle.pg_game.specs.private.Opened.{IsOpened};
-
-    ghost Value = { Opened };
-
-    ghost view = { λ s. opened_from s.ids.items s.priorities.items s.owners.items s.offsets.items s.closed s.targets.items };
-
-    ghost invariant = { λ s. IsOpened s.ids.items s.priorities.items s.owners.items s.offsets.items s.closed s.targets.items };
-}
-
-impl IncrementalBuilder {
-    /// No specification, and no successor. The only error is `Memory`.
-    pub fn new(alloc: Global) -> Result<IncrementalBuilder, Memory>
-        ensures specs { IfOk result (λ s. s.specs ≡ []) }
-        ensures successors { IfOk result (λ s. s.successors ≡ []) }
-    {
-        let mut offsets = Vec::new(alloc);
-        offsets.push(0)?;
-        Ok(IncrementalBuilder {
-            ids: Vec::new(alloc),
-            priorities: Vec::new(alloc),
-            owners: Vec::new(alloc),
-            offsets,
-            closed: 0,
-            targets: Vec::new(alloc),
-        })
-    }
-
-    /// Adds a successor of the open specification. The only error is `Memory`, and then nothing has changed.
-    #[inline]
-    pub fn push(&mut self, successor: u32) -> Result<(), Memory>
-        ensures specs { self.new.specs ≡ self.old.specs }
-        ensures pushed { OnOk result (self.new.successors ≡ self.old.successors ++ successor ∷ []) }
-        ensures kept { OnErr result (self.new ≡ self.old) }
-    {
-        self.targets.push(successor)?;
-        Ok(())
-    }
-
-    /// Removes the successors of the open specification.
-    #[inline]
-    pub fn clear(&mut self)
-        ensures specs { self.new.specs ≡ self.old.specs }
-        ensures successors { self.new.successors ≡ [] }
-    {
-        self.targets.truncate(self.closed);
-    }
-
-    /// Closes the open specification, with these parts and its successors. The only error is `Memory`, and then nothing has changed.
-    #[inline]
-    pub fn close(&mut self, id: u32, priority: u32, owner: Player) -> Result<(), Memory>
-        ensures specs { OnOk result (self.new.specs ≡ self.old.specs
-            ++ record { id = id; priority = priority; owner = owner; successors = self.old.successors } ∷ []) }
-        ensures successors { OnOk result (self.new.successors ≡ []) }
-        ensures kept { OnErr result (self.new ≡ self.old) }
-    {
-        let end = self.targets.len();
-        self.ids.reserve(1)?;
-        self.priorities.reserve(1)?;
-        self.owners.reserve(1)?;
-        self.offsets.reserve(1)?;
-        self.ids.push_reserved(id);
-        self.priorities.push_reserved(priority);
-        self.owners.push_reserved(owner);
-        self.offsets.push_reserved(end);
-        self.closed = end;
-        Ok(())
-    }
-
-    /// The specifications, without the successors of the open one.
-    pub fn into_builder(self) -> GameBuilder
-        ensures { result ≡ self.specs }
-    {
-        let IncrementalBuilder {
-            ids,
-            priorities,
-            owners,
-            offsets,
-            closed,
-            mut targets,
-        } = self;
-        targets.truncate(closed);
-        GameBuilder::of_parts(
-            ids,
-            priorities,
-            owners,
-            Adjacency::of_parts(offsets, targets),
-        )
-    }
-}
-
-impl GameBuilder {
     /// A pair of each identifier and its line, by rising identifier. The only error is `Memory`.
     pub(crate) fn sorted_lines(&self, alloc: Global) -> Result<Vec<(u32, u32)>, Memory>
         requires { length self.now ≤ max_vertices }
@@ -367,4 +262,107 @@ fn identifiers_of(alloc: Global, lines: &[(u32, u32)]) -> Result<Vec<u32>, Memor
         ids.push(line.0)?;
     }
     Ok(ids)
+}
+
+/// Specifications in their order, and the successors of an open one.
+#[derive(Drop)]
+pub struct IncrementalBuilder {
+    ids: Vec<u32>,
+    priorities: Vec<u32>,
+    owners: Vec<Player>,
+    offsets: Vec<usize>,
+    closed: usize,
+    targets: Vec<u32>,
+}
+
+impl Model for IncrementalBuilder {
+    ghost use Rattle.pg_game.specs.Opened.{Opened, opened_from};
+    ghost use Rattle.pg_game.specs.private.Opened.{IsOpened};
+
+    ghost Value = { Opened };
+
+    ghost view = { λ s. opened_from s.ids.items s.priorities.items s.owners.items s.offsets.items s.closed s.targets.items };
+
+    ghost invariant = { λ s. IsOpened s.ids.items s.priorities.items s.owners.items s.offsets.items s.closed s.targets.items };
+}
+
+impl IncrementalBuilder {
+    /// No specification, and no successor. The only error is `Memory`.
+    pub fn new(alloc: Global) -> Result<IncrementalBuilder, Memory>
+        ensures specs { IfOk result (λ s. s.specs ≡ []) }
+        ensures successors { IfOk result (λ s. s.successors ≡ []) }
+    {
+        let mut offsets = Vec::new(alloc);
+        offsets.push(0)?;
+        Ok(IncrementalBuilder {
+            ids: Vec::new(alloc),
+            priorities: Vec::new(alloc),
+            owners: Vec::new(alloc),
+            offsets,
+            closed: 0,
+            targets: Vec::new(alloc),
+        })
+    }
+
+    /// Adds a successor of the open specification. The only error is `Memory`, and then nothing has changed.
+    #[inline]
+    pub fn push(&mut self, successor: u32) -> Result<(), Memory>
+        ensures specs { self.new.specs ≡ self.old.specs }
+        ensures pushed { OnOk result (self.new.successors ≡ self.old.successors ++ successor ∷ []) }
+        ensures kept { OnErr result (self.new ≡ self.old) }
+    {
+        self.targets.push(successor)?;
+        Ok(())
+    }
+
+    /// Removes the successors of the open specification.
+    #[inline]
+    pub fn clear(&mut self)
+        ensures specs { self.new.specs ≡ self.old.specs }
+        ensures successors { self.new.successors ≡ [] }
+    {
+        self.targets.truncate(self.closed);
+    }
+
+    /// Closes the open specification, with these parts and its successors. The only error is `Memory`, and then nothing has changed.
+    #[inline]
+    pub fn close(&mut self, id: u32, priority: u32, owner: Player) -> Result<(), Memory>
+        ensures specs { OnOk result (self.new.specs ≡ self.old.specs
+            ++ record { id = id; priority = priority; owner = owner; successors = self.old.successors } ∷ []) }
+        ensures successors { OnOk result (self.new.successors ≡ []) }
+        ensures kept { OnErr result (self.new ≡ self.old) }
+    {
+        let end = self.targets.len();
+        self.ids.reserve(1)?;
+        self.priorities.reserve(1)?;
+        self.owners.reserve(1)?;
+        self.offsets.reserve(1)?;
+        self.ids.push_reserved(id);
+        self.priorities.push_reserved(priority);
+        self.owners.push_reserved(owner);
+        self.offsets.push_reserved(end);
+        self.closed = end;
+        Ok(())
+    }
+
+    /// The specifications, without the successors of the open one.
+    pub fn into_builder(self) -> GameBuilder
+        ensures { result ≡ self.specs }
+    {
+        let IncrementalBuilder {
+            ids,
+            priorities,
+            owners,
+            offsets,
+            closed,
+            mut targets,
+        } = self;
+        targets.truncate(closed);
+        GameBuilder::of_parts(
+            ids,
+            priorities,
+            owners,
+            Adjacency::of_parts(offsets, targets),
+        )
+    }
 }

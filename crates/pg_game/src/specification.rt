@@ -38,7 +38,7 @@ pub enum GameFault {
     /// Distinct successors, summed over the specifications, are more than 16,777,216.
     #[error("too many edges")]
     TooManyEdges,
-    /// The first specification, and in it the first successor, that names no specification.
+    /// The first specification with a successor that none specifies, and the first such successor.
     #[error("vertex {0}: successor {1} is not specified")]
     Unknown(u32, u32),
     /// Memory was refused.

@@ -24,7 +24,7 @@ pub use Rattle.pg_game.specs.declared.player.Player.{Player}
 pub use Rattle.pg_game.specs.declared.player.Player.TheVariants.{Even}
 pub use Rattle.pg_text.specs.Bytes.{AllAre, EndsRun, begins_token, is_blank, is_digit, is_letter, is_no_quote, value_of}
 pub use Rattle.pg_text.specs.Fault.{AllFit, IsLexicalFault, IsNumberFault, IsPlayerFault, IsSyntaxFault, fits}
-pub use Rattle.pg_text.specs.GameText.{BeginsGameText, IsBeforeOwner, IsGameText, WrittenGameLine, game_line_tokens, game_tokens, name_tokens, player_of}
+pub use Rattle.pg_text.specs.GameText.{BeginsGameText, IsBeforeOwner, IsGameText, WrittenGameLine, game_line_tokens, game_tokens, name_tokens}
 pub use Rattle.pg_text.specs.GameText.{separated, spec_of}
 pub use Rattle.pg_text.specs.Known.{AreKnownLinesOf}
 pub use Rattle.pg_text.specs.Reading.{IsSolutionTextOf, IsSomeGameText, IsSomeSolutionText, SpellsGame, SpellsSolution}

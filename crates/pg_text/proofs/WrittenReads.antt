@@ -3,17 +3,15 @@ use Rattle.pg_text.proofs.Common.{◌≡◌, ℕ, zero, suc, ◌+◌, ◌<◌, f
 use Rattle.pg_text.proofs.Common.{Option, Some, None, option_map, slice_get, AllByRecursion, Contains, list_any, eqb-true, eq-eqb, false_from_ne_true}
 use Rattle.pg_text.proofs.Common.{length-map, get_or-map, list_any_at, slice_get-get_or, get_or_from_slice_get, Player, Even, Spec, digit_of, Graph, Vertex}
 use Rattle.pg_text.proofs.Common.{IsGame, id_of, vertex_at, no_vertex, first_repeated, first_fault, Placed, tokens_of, IsGameText, spec_of}
-use Rattle.pg_text.proofs.Common.{IsSolutionText, SolutionRows, AreSolutionRows, greatest_id, written_game, written_solution, IsSolutionTextOf, AreLinesOf}
+use Rattle.pg_text.proofs.Common.{IsSolutionText, SolutionRows, AreSolutionRows, greatest_id, written_game, written_solution, AreLinesOf}
 use Rattle.pg_text.proofs.Common.{first_stranger, first_twice, first_missing, has_line, number_in, row_of_line, IsNamed}
 use Rattle.std.specs.List.Sorted.{IsStrictlyIncreasing}
 use Rattle.std.proofs.lemmas.List.{same_lists}
 use Rattle.std.proofs.lemmas.Map.Keys.{sorted_from_strictly_increasing, below_from_sorted}
 use Rattle.pg_game.specs.Specification.{IsGameOf}
-use Rattle.pg_text.specs.Reading.{IsTextOf}
 use Rattle.pg_text.specs.SolutionLines.{AreRowsOf}
 use Rattle.pg_text.specs.Laws.{WrittenGameReads, WrittenSolutionReads, WrittenGameIsText, WrittenSolutionIsText}
-use Rattle.pg_game.specs.Described.{spec_at, specs_of}
-use Rattle.pg_game.proofs.UniqueGame.{described_game, one_described, described_sound}
+use Rattle.pg_game.proofs.UniqueGame.{spec_at, specs_of, described_game, one_described, described_sound}
 use Rattle.pg_text.proofs.laws.UniqueTokens.{one_spelling}
 use Rattle.pg_text.proofs.laws.UniqueGameLines.{one_reading}
 use Rattle.pg_text.proofs.OneSolutionFault.{one_lines}
@@ -174,18 +172,3 @@ written_game_is_text g i w =
 
 pub written_solution_is_text : WrittenSolutionIsText
 written_solution_is_text g rows i w are = record { lines = row_lines g g rows; spelled = written_solution_spells g rows i w are; says = are_lines g rows i are }
-
--- a game that the written text of a game is a text of is that game
-pub written_game_back : (g h : Graph) → IsGame g → IsTextOf (written_game g) h → h ≡ g
-written_game_back g h i text =
-    let r = written_game_reads g i in
-    let e = r.one_text text.lines (text.spelled.tokens, text.spelled.spelled, text.spelled.grammar) in
-    r.one_game h (subst (λ ls. IsGameOf (map spec_of ls) h) e text.says)
-
--- and winners and choices that a written solution is a text of are those
-pub written_solution_back : (g : Graph) (rows others : SolutionRows) → IsGame g → AreSolutionRows g rows
-    → IsSolutionTextOf g (written_solution g rows) others → others ≡ rows
-written_solution_back g rows others i are text =
-    let r = written_solution_reads g rows i are in
-    let e = r.one_text text.lines (text.spelled.tokens, text.spelled.spelled, text.spelled.grammar) in
-    r.one_solution others (subst (λ ls. AreLinesOf g ls others) e text.says)

@@ -2,10 +2,10 @@
 use Rattle.std.specs.Prelude.{ℕ, ◌≡◌, ◌<◌, ◌⊎◌, Bool, true, false, nat_le, List, [], ◌∷◌, ◌++◌, length}
 use Rattle.std.specs.List.{AllByRecursion}
 use Rattle.pg_game.specs.Specification.{max_number}
-use Rattle.pg_text.specs.Token.{Token, Number, Word, Name, Comma, Semicolon, Placed, tokens_of, Spells}
+use Rattle.pg_text.specs.Token.{Token, Number, Placed, tokens_of, Spells}
 use Rattle.pg_text.specs.Bytes.{AllAre, is_blank, is_no_quote, begins_token}
 
--- the bytes before the place spell tokens, and the byte there is no blank and begins no token, or is a quote with no later quote
+-- whole tokens end before the place; the byte there is neither a blank nor the first of a token, or it is a quote that is never closed
 pub record IsLexicalFault (text : List ℕ) (place : ℕ) : Type 0 where
   pub before : List ℕ
   pub byte : ℕ
@@ -42,10 +42,7 @@ pub record IsSyntaxFault (BeginsText IsText : List Token → Type 0) (text : Lis
 -- the number is within the limit
 abbrev pub fits : Token → Bool
 fits (Number n) = nat_le n max_number
-fits (Word letters) = true
-fits (Name bytes) = true
-fits Comma = true
-fits Semicolon = true
+fits _ = true
 
 abbrev pub AllFit : List Token → Type 0
 AllFit ts = AllByRecursion (λ t. fits t ≡ true) ts

@@ -52,10 +52,4 @@ pub record IsKnownTextOf (g : Graph) (text : List ℕ) (rows : KnownRows) : Type
 -- the text's first fault, as for solutions, but no vertex is missing
 abbrev pub IsKnownFaultOf : Graph → List ℕ → SolutionTextFault → Type 0
 IsKnownFaultOf g text (fault.Missing id) = ⊥
-IsKnownFaultOf g text (fault.Lexical at) = IsSolutionFaultOf g text (fault.Lexical at)
-IsKnownFaultOf g text (fault.Syntax at) = IsSolutionFaultOf g text (fault.Syntax at)
-IsKnownFaultOf g text (fault.Number at) = IsSolutionFaultOf g text (fault.Number at)
-IsKnownFaultOf g text (fault.Winner at) = IsSolutionFaultOf g text (fault.Winner at)
-IsKnownFaultOf g text (fault.Stranger id) = IsSolutionFaultOf g text (fault.Stranger id)
-IsKnownFaultOf g text (fault.Twice id) = IsSolutionFaultOf g text (fault.Twice id)
-IsKnownFaultOf g text fault.Memory = IsSolutionFaultOf g text fault.Memory
+IsKnownFaultOf g text f = IsSolutionFaultOf g text f

@@ -6,7 +6,7 @@ use Rattle.pg_game.specs.declared.player.Player.{Player}
 use Rattle.pg_game.specs.Kept.{option_list}
 use Rattle.pg_game.specs.Graph.{Graph}
 use Rattle.pg_game.specs.Specification.{first_repeated}
-use Rattle.pg_text.specs.GameText.{player_of}
+use Rattle.pg_game.specs.Player.{of_digit}
 use Rattle.pg_text.specs.SolutionText.{WrittenSolutionLine}
 use Rattle.pg_text.specs.Solution.{SolutionRows}
 
@@ -35,7 +35,7 @@ first_missing g lines = find (λ i. not (has_line lines i)) (map (λ x. x.id) g)
 
 -- the row of a line
 abbrev pub row_of_line : Graph → WrittenSolutionLine → Player × Option ℕ
-row_of_line g l = (player_of l.winner, option_map (λ i. number_in g i) l.choice)
+row_of_line g l = (of_digit l.winner, option_map (λ i. number_in g i) l.choice)
 
 -- each line has the row of its vertex
 pub record AreRowsOf (g : Graph) (lines : List WrittenSolutionLine) (rows : SolutionRows) : Type 0 where

@@ -21,9 +21,7 @@ IsSpelling Semicolon bytes = bytes ≡ 59 ∷ []
 abbrev pub IsWhole : Token → List ℕ → Type 0
 IsWhole (Number n) rest = EndsRun is_digit rest
 IsWhole (Word letters) rest = EndsRun is_letter rest
-IsWhole (Name inner) rest = ⊤
-IsWhole Comma rest = ⊤
-IsWhole Semicolon rest = ⊤
+IsWhole _ rest = ⊤
 
 -- a token, and the number of bytes of the text before it
 pub record Placed : Type 0 where

@@ -3,7 +3,7 @@
 ghost use Rattle.std.specs.Prelude.{IfOk, true, []};
 ghost use Rattle.pg_text.specs.private.GameReads.{ReadsGame};
 
-use crate::reader::{Grammar, State, Symbol, player};
+use crate::reader::{Grammar, State, Symbol};
 use pg_game::{GameBuilder, IncrementalBuilder, Memory, Player};
 use std::alloc::Global;
 
@@ -60,7 +60,7 @@ impl Grammar for GameText {
                 Ok(Some(State::Priority))
             }
             (Symbol::Number, State::Priority) => {
-                self.owner = player(value);
+                self.owner = Player::of_digit(value);
                 self.specs.clear();
                 Ok(Some(State::Player))
             }

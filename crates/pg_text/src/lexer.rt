@@ -2,7 +2,7 @@
 //! common ones and stay in one small function; words and names are out of line. A number of any length is read in 64 bits,
 //! since its value stops growing once it is above the limit.
 
-ghost use Rattle.std.specs.Prelude.{◌≡◌, ◌≢◌, ℕ, ◌+◌, ◌<◌, ◌≤◌, length, drop, List, slice_index, false, MatchOption, IfSome, Some};
+ghost use Rattle.std.specs.Prelude.{◌≡◌, ◌≢◌, ◌+◌, ◌<◌, ◌≤◌, length, slice_index, false, MatchOption, IfSome, Some};
 ghost use Rattle.pg_text.specs.Bytes as bytes;
 ghost use Rattle.pg_text.specs.private.Lexeme.{IsNextLexeme, IsRangeOf, IsWholeRun, IsWholeNumber};
 ghost use Rattle.pg_text.specs.private.Reach.{SpellsRest, IsBadFrom};

@@ -9,12 +9,11 @@ ghost use Rattle.pg_text.specs.Reading.{max_text};
 ghost use Rattle.pg_text.specs.private.Lexeme.{IsRangeOf, fitting};
 ghost use Rattle.pg_text.specs.private.Parsing.{KeepsReader, ReaderTakes, OfToken, IsUnexpected, SpellsLines, IsParseFaultOf};
 ghost use Rattle.pg_text.specs.private.Machine.{symbol_of, number_of};
-ghost use Rattle.pg_text.specs.GameText.{player_of};
 ghost use Rattle.pg_text.specs.private.FirstFault.{first_at, wrong_in};
 
 use crate::fault::ParseFault;
 use crate::lexer::{Kind, Lexeme, first_invalid, next_token};
-use pg_game::{Memory, Player};
+use pg_game::Memory;
 
 /// What a text of a grammar says, read up to some token.
 pub trait Grammar {
@@ -83,14 +82,6 @@ pub fn read_lines<G: Grammar + Drop>(grammar: G, text: &[u8]) -> Result<G::Lines
         }
         at = lexeme.to;
     }
-}
-
-/// The player with this number.
-#[inline]
-pub fn player(n: u32) -> Player
-    ensures { result ≡ player_of n }
-{
-    if n == 0 { Player::Even } else { Player::Odd }
 }
 
 /// What was read last.

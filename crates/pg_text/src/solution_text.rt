@@ -17,7 +17,7 @@ ghost use Rattle.pg_text.specs.private.SolutionTable.{HoldsTable, IsNamed, IsStr
 ghost use Rattle.pg_text.specs.Known.{AreKnownLinesOf};
 
 use crate::fault::{ParseFault, SolutionTextFault};
-use crate::reader::{Grammar, State, Symbol, player, read_lines};
+use crate::reader::{Grammar, State, Symbol, read_lines};
 use pg_game::{ForwardGame, Mask, Memory, Player, Sequence};
 use std::alloc::Global;
 
@@ -71,7 +71,7 @@ impl Grammar for SolutionText {
                 Ok(Some(State::Id))
             }
             (Symbol::Number, State::Id) => {
-                self.winner = player(value);
+                self.winner = Player::of_digit(value);
                 self.choice = None;
                 Ok(Some(State::Player))
             }

@@ -2,7 +2,7 @@
 //! vertex in rising identifier. Numbers have no leading zeros; there is no start line and no name. A line is written from its
 //! end, so that `itoa` writes digits where they stay: a writer of a part returns where it begins.
 
-ghost use Rattle.std.specs.Prelude.{◌≡◌, ◌<◌, ◌≤◌, ◌+◌, ◌*◌, ◌^◌, ◌++◌, ◌∷◌, [], ℕ, length, drop, take, slice_index, codes, map, max, IfOk, OnOk, OnErr, IfSome};
+ghost use Rattle.std.specs.Prelude.{◌≡◌, ◌<◌, ◌≤◌, ◌+◌, ◌*◌, ◌^◌, ◌++◌, ◌∷◌, [], ℕ, length, drop, slice_index, codes, map, max, IfOk, OnOk, OnErr, IfSome};
 ghost use Rattle.std.specs.List.{join_with_byte};
 ghost use Rattle.pg_game.specs.Graph.{id_of, priority_of, owner_of, successors_of, vertex_at};
 ghost use Rattle.pg_game.specs.Player.{digit_of};
@@ -117,7 +117,7 @@ pub fn choice_before(line: &mut [u8], end: usize, game: &Game, choice: Option<u3
     }
 }
 
-/// The same for the text of a solution or of winners, at most seven times its length.
+/// The capacity for the text of a solution or of winners, at most seven times its length.
 fn solution_capacity(game: &Game) -> usize
     ensures { (rows : SolutionRows) → length rows ≡ length game.now → result ≤ 7 * length (written_solution game.now rows) }
 {
@@ -204,12 +204,11 @@ fn extend_line(line: &mut Vec<u8>, successors: usize) -> Result<(), Memory>
 /// The line of one vertex in a game text, which is written from its end into a line that is long enough.
 fn put_vertex(out: &mut Vec<u8>, line: &mut [u8], game: &ForwardGame, v: u32) -> Result<(), Memory>
     requires vertex { v < length game.now }
+    requires some { 0 < length (successors_of game.now v) }
     requires capacity { 40 + 11 * length (successors_of game.now v) ≤ length line.old }
     ensures text { OnOk result (out.new.items ≡ out.old.items ++ written_vertex game.now (vertex_at game.now v)) }
     ensures size { length line.new ≡ length line.old }
 {
-    // for the proof: the graph is a game, so each vertex has a successor
-    let _n = game.len();
     let at = end_before(line);
     let at = list_before(line, at, game, game.successors(v));
     let at = fields_before(line, at, game, v);

@@ -1,5 +1,5 @@
 -- A board that settles all the rest leaves what was settled as it was, and so do its solution's rows.
-use Rattle.std.proofs.Common.{◌≡◌, ℕ, ◌<◌, Bool, true, false, Ok, Err, Some, None, Option, Result, length, refl, sym, ap, ◌∙◌, subst, ltb-true, slice_get, IfOk}
+use Rattle.std.proofs.Common.{◌≡◌, ℕ, ◌<◌, true, false, Ok, Err, Some, None, Option, Result, length, refl, sym, ap, ◌∙◌, subst, ltb-true, slice_get, IfOk}
 use Rattle.std.proofs.Common.{if◌then◌else◌}
 use Rattle.std.specs.Prelude.{eqb}
 use Rattle.std.specs.Option.{option_eq}
@@ -27,10 +27,6 @@ use Rattle.pg_board.proofs.OwnEntries.{keeps_state}
 use Rattle.pg_workers.specs.KnownRegions.{KeepsKnown}
 use Rattle.pg_workers.specs.private.KnownPosts.{KeepsRow}
 use Rattle.pg_workers.proofs.KnownSets.{known_below}
-
-pub is_done : (done : Bool) → (done ≡ false → ⊥) → done ≡ true
-is_done true never = refl
-is_done false never = absurd (never refl)
 
 -- in the rows of a later state, too
 pub keeps_in_rows : (old new : BoardRecord) (rows : SolutionRows) → IsContinued old new → IsLawful new.graph new.journal

@@ -5,7 +5,7 @@ use Rattle.std.proofs.Common.{◌++◌, ◌≤◌, ltb-true, Ok, Err, IfOk, IfEr
 use mathlib.Core.Path.{fun_ext}
 use Rattle.std.proofs.Math.Bool.{or-false}
 use Rattle.std.specs.List.{Contains}
-use Rattle.std.specs.Cmp.{nat_eq_equiv}
+use Rattle.std.specs.Cmp.{both_ways, nat_eq_equiv}
 use Rattle.std.proofs.lemmas.Bool.{eqb-true, and_parts, and_from, false_from_ne_true}
 use Rattle.std.proofs.lemmas.List.{length-map, nil_from_length}
 use Rattle.std.proofs.lemmas.List.Sums.{sum_by_push}
@@ -27,7 +27,7 @@ use Rattle.pg_dominion.specs.declared.claim.Claim.{Claim}
 use Rattle.pg_dominion.specs.Claim.{ClaimRows, named, choice_in, vertices}
 use Rattle.pg_finders.proofs.GoodClaims.{good_rows}
 use Rattle.pg_finders.proofs.Rows.{RowsOf, rows_of_below}
-use Rattle.pg_finders.proofs.Sets.{not_same, equal_from}
+use Rattle.pg_finders.proofs.Sets.{not_same}
 use Rattle.pg_board.specs.declared.journal.Entry.{Entry}
 use Rattle.pg_board.specs.declared.journal.Posted.{Posted}
 use Rattle.pg_board.specs.declared.journal.Refusal.{Refusal}
@@ -56,10 +56,6 @@ pub known_below : (known : KnownRows) (p : Player) (v : ℕ) → known_of known 
 known_below [] p v i = absurd (cc i)
 known_below (r ∷ known) p zero i = omega arith
 known_below (r ∷ known) p (suc v) i = let h = known_below known p v i in omega arith
-
--- nothing is known after the last row
-pub unknown_beyond : (known : KnownRows) (p : Player) (v : ℕ) → length known ≤ v → known_of known p v ≡ false
-unknown_beyond known p v le = false_from_ne_true (known_of known p v) (λ i. let h = known_below known p v i in omega (arith, h, le))
 
 -- a set without vertices is a region, and attracts none
 module _ (g : Graph) (game : IsGame g) (known : KnownRows) (p : Player) (none : (v : ℕ) → known_of known p v ≡ false) where
@@ -103,7 +99,7 @@ module _ (g : Graph) (game : IsGame g) (known : KnownRows) (sized : length known
   facts = rows_of_below K (own_choices g p s) (length g)
 
   rows_named : (v : ℕ) → named rows v ≡ K v
-  rows_named v = equal_from (named rows v) (K v) (λ m. (facts.named_only v m).0) (λ i. facts.names v i (inside v i))
+  rows_named v = both_ways (named rows v) (K v) (λ m. (facts.named_only v m).0) (λ i. facts.names v i (inside v i))
 
   to_rows : (v : ℕ) → In K v → In (named rows) v
   to_rows v i = rows_named v ∙ i

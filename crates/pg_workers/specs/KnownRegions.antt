@@ -1,9 +1,9 @@
 -- What is known of a game before it is solved, as regions: what a run keeps of it, and why it refuses a set that is none.
-use Rattle.std.specs.Prelude.{ℕ, ◌≡◌, ◌<◌, ◌+◌, ◌↔◌, false, List, [], length, nat_eq, Some, option_map, slice_get}
+use Rattle.std.specs.Prelude.{ℕ, ◌≡◌, ◌+◌, ◌↔◌, false, List, [], length, nat_eq, Some, option_map, slice_get}
 use Rattle.std.specs.List.{Contains, IsDistinct}
 use Rattle.pg_game.specs.declared.player.Player.{Player}
 use Rattle.pg_game.specs.declared.player.Player.TheVariants.{Even, Odd}
-use Rattle.pg_game.specs.Graph.{Graph}
+use Rattle.pg_game.specs.Graph.{Graph, id_of}
 use Rattle.pg_game.specs.VertexSet.{In, all_vertices}
 use Rattle.pg_game.specs.Attractor.{Attractor}
 use Rattle.pg_game.specs.Region.{IsRegion}
@@ -62,9 +62,7 @@ abbrev pub IsOfPost : Refusal → Type 0
 IsOfPost (refusal.Claim e) = Unit {0}
 IsOfPost (refusal.Lost v) = Unit {0}
 IsOfPost (refusal.Open v w) = Unit {0}
-IsOfPost (refusal.Foreign v) = ⊥
-IsOfPost refusal.Stale = ⊥
-IsOfPost refusal.Memory = ⊥
+IsOfPost other = ⊥
 
 -- the known set is no region, and this is a board's reason to refuse its rows
 pub record IsRefusedKnown (g : Graph) (journal : Journal) (known : KnownRows) (p : Player) (e : Refusal) : Type 0 where
@@ -90,21 +88,14 @@ abbrev pub IsSolveFault : Graph → KnownRows → SolveFault → Type 0
 IsSolveFault g known fault.Memory = Unit {0}
 IsSolveFault g known (fault.Known p e) = IsRefusedPost g known p e
 
--- the fault gives the reason to refuse the claim of these rows
-abbrev pub Names : ClaimRows → Refusal → KnownFault → Type 0
-Names rows (refusal.Claim (Shape i)) (known_fault.Choice v) = option_map (λ r. r.0) (slice_get rows i) ≡ Some v
-Names rows (refusal.Claim (Cycle v)) (known_fault.Cycle u) = u ≡ v
-Names rows (refusal.Lost v) (known_fault.Lost u) = u ≡ v
-Names rows (refusal.Open v w) (known_fault.Open u x) = (u ≡ v) × (x ≡ w)
-Names rows _ _ = ⊥
-
--- the fault is about vertices of the game
-abbrev pub NamesVertices : Graph → KnownFault → Type 0
-NamesVertices g (known_fault.Choice v) = v < length g
-NamesVertices g (known_fault.Cycle v) = v < length g
-NamesVertices g (known_fault.Lost v) = v < length g
-NamesVertices g (known_fault.Open v w) = (v < length g) × (w < length g)
+-- the fault gives the reason to refuse the claim of these rows, by identifiers
+abbrev pub Names : Graph → ClaimRows → Refusal → KnownFault → Type 0
+Names g rows (refusal.Claim (Shape i)) (known_fault.Choice id) = option_map (λ r. id_of g r.0) (slice_get rows i) ≡ Some id
+Names g rows (refusal.Claim (Cycle v)) (known_fault.Cycle id) = id ≡ id_of g v
+Names g rows (refusal.Lost v) (known_fault.Lost id) = id ≡ id_of g v
+Names g rows (refusal.Open v w) (known_fault.Open id to) = (id ≡ id_of g v) × (to ≡ id_of g w)
+Names g rows _ _ = ⊥
 
 -- a player's known set is no region, and this is the reason to refuse its post
 abbrev pub IsRefusedSet : Graph → KnownRows → KnownFault → Type 0
-IsRefusedSet g known f = (p : Player) × (e : Refusal) × IsSolveFault g known (fault.Known p e) × Names (known_rows g known p) e f
+IsRefusedSet g known f = (p : Player) × (e : Refusal) × IsSolveFault g known (fault.Known p e) × Names g (known_rows g known p) e f

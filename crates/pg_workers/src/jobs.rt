@@ -1,7 +1,7 @@
 //! The jobs of a run and their numbers, which workers draw from one atomic word. Each worker draws by a ticket of its own, which
 //! keeps its numbers. A draw is one step on the word and waits for nobody.
 
-ghost use Rattle.std.specs.Prelude.{◌≡◌, ◌+◌, ◌*◌, ◌==◌, ◌≤◌, ◌<◌, [], true, All, IfOk, IfSome, IfNone, None, if◌then◌else◌, length, map, replicate, vec_len};
+ghost use Rattle.std.specs.Prelude.{◌≡◌, ◌≤◌, ◌<◌, [], true, All, IfOk, IfSome, IfNone, None, if◌then◌else◌, length, map, replicate, vec_len};
 ghost use Rattle.pg_workers.specs.private.Drawing.{drawer};
 ghost use Rattle.pg_workers.specs.Tickets.{fresh, drew, exhausted, AreDrawn};
 

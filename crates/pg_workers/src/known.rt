@@ -1,16 +1,18 @@
 //! What the calling thread posts before a worker starts, as worker 0: what is known of the game, Even's claim and then Odd's.
 
 ghost use Rattle.std.specs.Prelude.{◌≡◌, ◌≤◌, ◌<◌, ◌↔◌, length, Some, IfOk, IfErr, IsTrue, option_map, slice_get};
+ghost use Rattle.pg_game.specs.Graph.{id_of};
 ghost use Rattle.pg_text.specs.Known.{known_at};
 ghost use Rattle.pg_board.specs.Journal.{state_of};
-ghost use Rattle.pg_workers.specs.KnownRegions.{known_rows, HasNone, IsSolveFault, KeepsKnown, Names, NamesVertices};
+ghost use Rattle.pg_workers.specs.KnownRegions.{known_rows, HasNone, IsSolveFault, KeepsKnown, Names};
 ghost use Rattle.pg_workers.specs.private.KnownPosts.{fault_of, HasKnown, IsKnownFault, KeepsRow, SettlesKnown};
 
 use pg_board::{Board, Refusal};
 use pg_dominion::{Claim, ClaimFault, own_choice};
-use pg_game::{Game, Memory, Player, Sequence};
+use pg_game::{Game, Memory, Player};
 use pg_text::Known;
 use std::alloc::Global;
+use thiserror::Error;
 
 /// Why a run has no outcome: the refusal of a player's known set, or refused memory.
 #[derive(Clone, Copy, Debug, Drop, PartialEq, Eq)]
@@ -32,51 +34,51 @@ impl From<Memory> for SolveFault {
     }
 }
 
-/// Why a player's known set is no region, by vertices: the reason of the refused post.
-#[derive(Clone, Copy, Debug, Drop, PartialEq, Eq)]
+/// Why a player's known set is no region, by identifiers: the reason of the refused post.
+#[derive(Clone, Copy, Debug, Drop, PartialEq, Eq, Error)]
 pub enum KnownFault {
     /// The first vertex that the player owns without a choice, or with one that is no successor.
+    #[error("bad choice or none at {0}")]
     Choice(u32),
     /// The least vertex with the opponent's parity that is the greatest on a closed walk of kept edges inside the set.
+    #[error("bad cycle at {0}")]
     Cycle(u32),
     /// The least vertex of the set that the opponent attracts to his own known set.
+    #[error("{0} is lost")]
     Lost(u32),
     /// The first kept edge that leads out of the set.
+    #[error("{0} leaves to {1}")]
     Open(u32, u32),
 }
 
 /// The fault of the player's known set, whose post was refused for this reason.
 pub fn known_fault(of: &KnownOf<'_>, player: Player, refusal: Refusal) -> KnownFault
     requires { IsSolveFault of.now.game.now of.now.known.now.rows (SolveFault.Known player refusal) }
-    ensures reason { Names (known_rows of.now.game.now of.now.known.now.rows player) refusal result }
-    ensures vertices { NamesVertices of.now.game.now result }
+    ensures { Names of.now.game.now (known_rows of.now.game.now of.now.known.now.rows player) refusal result }
 {
     // for the proof: the graph is a game, so edges end at vertices
     let _n = of.game.len();
     match refusal {
-        Refusal::Claim(ClaimFault::Shape(row)) => {
-            KnownFault::Choice(vertex_in_row(of, player, row))
-        }
-        Refusal::Claim(ClaimFault::Cycle(v)) => KnownFault::Cycle(v),
-        Refusal::Lost(v) => KnownFault::Lost(v),
-        Refusal::Open(v, w) => KnownFault::Open(v, w),
+        Refusal::Claim(ClaimFault::Shape(row)) => KnownFault::Choice(id_in_row(of, player, row)),
+        Refusal::Claim(ClaimFault::Cycle(v)) => KnownFault::Cycle(of.game.id(v)),
+        Refusal::Lost(v) => KnownFault::Lost(of.game.id(v)),
+        Refusal::Open(v, w) => KnownFault::Open(of.game.id(v), of.game.id(w)),
         Refusal::Claim(ClaimFault::Memory) => unreachable!(),
         Refusal::Foreign(_) | Refusal::Stale | Refusal::Memory => unreachable!(),
     }
 }
 
-/// The vertex in a row of the player's known set: of his known vertices, in order, the one with this many before it.
-fn vertex_in_row(of: &KnownOf<'_>, player: Player, row: u32) -> u32
+/// The identifier in a row of the player's known set: that of his known vertex with this many before it.
+fn id_in_row(of: &KnownOf<'_>, player: Player, row: u32) -> u32
     requires { row < length (known_rows of.now.game.now of.now.known.now.rows player) }
-    ensures vertex { result < length of.now.game.now }
-    ensures row { option_map (λ r. r.0) (slice_get (known_rows of.now.game.now of.now.known.now.rows player) row) ≡ Some result }
+    ensures { option_map (λ r. id_of of.now.game.now r.0) (slice_get (known_rows of.now.game.now of.now.known.now.rows player) row) ≡ Some result }
 {
     let mut before = 0u32;
     for v in 0..of.game.len() {
         if let Some((winner, _)) = known_at(of.known, v) {
             if winner == player {
                 if before == row {
-                    return v;
+                    return of.game.id(v);
                 }
                 before += 1;
             }
@@ -166,10 +168,7 @@ fn known_claim(alloc: Global, game: &Game, known: &Known, player: Player) -> Res
             }
         }
     }
-    Ok(Claim {
-        player,
-        rows: Sequence::new(rows),
-    })
+    Ok(Claim::new(player, rows))
 }
 
 /// What is known of the vertex.

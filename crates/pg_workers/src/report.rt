@@ -3,7 +3,7 @@
 
 ghost use Rattle.std.specs.Prelude.{◌≡◌, ◌+◌, ◌^◌, ◌≤◌, ◌<◌, ℕ, IfOk, length, map, vec_len};
 ghost use Rattle.pg_workers.specs.Report.{IsInOrder, blank_row, settled_in};
-ghost use Rattle.pg_workers.specs.private.Report.{AreBlank, AreOfPrefix, AreNotedRows, HasPlaces, answered, noted, rows_in, without_posts};
+ghost use Rattle.pg_workers.specs.private.Report.{AreBlank, AreOfPrefix, AreNotedRows, HasFreePlaces, answered, noted, rows_in, without_posts};
 
 use pg_board::Refusal;
 use pg_game::Memory;
@@ -101,7 +101,7 @@ pub(crate) fn with_no_posts(mut report: Vec<ReportRow>) -> Vec<ReportRow>
 
 /// Puts each row at the place of its job.
 fn place_rows(report: &mut [ReportRow], rows: &[ReportRow])
-    requires { HasPlaces report.old rows.now }
+    requires { HasFreePlaces report.old rows.now }
     ensures placed { AreNotedRows report.old report.new rows.now }
     ensures settled { settled_in report.new ≡ settled_in report.old + settled_in rows.now }
 {

@@ -49,7 +49,7 @@ pub(crate) trait RunJobs {
 }
 
 impl RunJobs for Brand {
-    ghost use Rattle.pg_workers.specs.private.Tickets.{no_series};
+    ghost use Rattle.pg_workers.specs.private.Drawing.{no_series};
 
     ghost series = { no_series };
 

@@ -1,6 +1,6 @@
 //! What a command line may ask for, and how it is read from the values that the kit's `clap` found.
 
-ghost use Rattle.std.specs.Prelude.{◌≡◌, ◌≤◌, ℕ, List, Option, Some, IfOk, IfErr, codes, option_map, string_bytes};
+ghost use Rattle.std.specs.Prelude.{◌≡◌, ◌≤◌, ℕ, List, Option, Some, IfOk, IfErr, option_map, string_bytes};
 ghost use Rattle.clap.specs.Words.{first_of, found_of, rows_of, subcommand_rows_of};
 ghost use Rattle.pgboard.specs.declared.arguments.Asked.{Asked};
 ghost use Rattle.pgboard.specs.Asking.{IsInRange, path_of, second_path_of};
@@ -51,10 +51,34 @@ impl Asked {
         ensures taken { (asked : Asked) → IsRead (subcommand_rows_of matches.now) asked → IsInRange asked → IfErr result (λ e. e ≡ AskedFault.Memory) }
     {
         match matches.subcommand() {
-            Some(("verify", given)) => asked_to_verify(alloc, given),
-            Some(("tidy", given)) => asked_to_tidy(alloc, given),
-            Some(("solve", given)) => asked_to_solve(alloc, given),
-            Some(("trace", given)) => asked_to_trace(alloc, given),
+            Some(("verify", given)) => {
+                let game = path(alloc, given, "GAME")?;
+                let solution = path(alloc, given, "SOLUTION")?;
+                Ok(Asked::Verify { game, solution })
+            }
+            Some(("tidy", given)) => {
+                let game = optional_path(alloc, given, "GAME")?;
+                Ok(Asked::Tidy { game })
+            }
+            Some(("solve", given)) => {
+                let workers = number(alloc, given, "workers", 1, 64)?;
+                let bound = number(alloc, given, "bound", 0, 8)?;
+                let winners = given.get_flag("winners");
+                let known = optional_path(alloc, given, "known")?;
+                let game = optional_path(alloc, given, "GAME")?;
+                Ok(Asked::Solve {
+                    workers,
+                    bound,
+                    winners,
+                    known,
+                    game,
+                })
+            }
+            Some(("trace", given)) => {
+                let workers = number(alloc, given, "workers", 1, 64)?;
+                let game = optional_path(alloc, given, "GAME")?;
+                Ok(Asked::Trace { workers, game })
+            }
             _ => Err(AskedFault::words(alloc, "error: there is no such command\n")),
         }
     }
@@ -84,18 +108,6 @@ impl Asked {
     }
 }
 
-/// What the values after the command `verify` ask for.
-fn asked_to_verify(alloc: Global, given: &ArgMatches<'_>) -> Result<Asked, AskedFault>
-    ensures range { IfOk result IsInRange }
-    ensures read { IfOk result (λ asked. IsRead (Some (codes "verify", rows_of (found_of given.now))) asked) }
-    ensures taken { (asked : Asked) → IsRead (Some (codes "verify", rows_of (found_of given.now))) asked → IsInRange asked
-        → IfErr result (λ e. e ≡ AskedFault.Memory) }
-{
-    let game = path(alloc, given, "GAME")?;
-    let solution = path(alloc, given, "SOLUTION")?;
-    Ok(Asked::Verify { game, solution })
-}
-
 /// The text, where there is one.
 fn given(text: &Option<String>) -> Option<&str>
     ensures { option_map (λ text. text.now) result ≡ option_map (λ text. string_bytes text) text.now }
@@ -117,17 +129,6 @@ fn path(alloc: Global, given: &ArgMatches<'_>, name: &str) -> Result<String, Ask
     }
 }
 
-/// What the values after the command `tidy` ask for.
-fn asked_to_tidy(alloc: Global, given: &ArgMatches<'_>) -> Result<Asked, AskedFault>
-    ensures range { IfOk result IsInRange }
-    ensures read { IfOk result (λ asked. IsRead (Some (codes "tidy", rows_of (found_of given.now))) asked) }
-    ensures taken { (asked : Asked) → IsRead (Some (codes "tidy", rows_of (found_of given.now))) asked → IsInRange asked
-        → IfErr result (λ e. e ≡ AskedFault.Memory) }
-{
-    let game = optional_path(alloc, given, "GAME")?;
-    Ok(Asked::Tidy { game })
-}
-
 /// The path that may have been given under this name.
 fn optional_path(
     alloc: Global,
@@ -141,27 +142,6 @@ fn optional_path(
         return Ok(Some(path(alloc, given, name)?));
     }
     Ok(None)
-}
-
-/// What the values after the command `solve` ask for.
-fn asked_to_solve(alloc: Global, given: &ArgMatches<'_>) -> Result<Asked, AskedFault>
-    ensures range { IfOk result IsInRange }
-    ensures read { IfOk result (λ asked. IsRead (Some (codes "solve", rows_of (found_of given.now))) asked) }
-    ensures taken { (asked : Asked) → IsRead (Some (codes "solve", rows_of (found_of given.now))) asked → IsInRange asked
-        → IfErr result (λ e. e ≡ AskedFault.Memory) }
-{
-    let workers = number(alloc, given, "workers", 1, 64)?;
-    let bound = number(alloc, given, "bound", 0, 8)?;
-    let winners = given.get_flag("winners");
-    let known = optional_path(alloc, given, "known")?;
-    let game = optional_path(alloc, given, "GAME")?;
-    Ok(Asked::Solve {
-        workers,
-        bound,
-        winners,
-        known,
-        game,
-    })
 }
 
 /// The number that was given under this name. The command-line reader has judged its range; a number that is out of it
@@ -184,16 +164,4 @@ fn number(
         }
     }
     Err(AskedFault::words(alloc, "error: a number is out of its range\n"))
-}
-
-/// What the values after the command `trace` ask for.
-fn asked_to_trace(alloc: Global, given: &ArgMatches<'_>) -> Result<Asked, AskedFault>
-    ensures range { IfOk result IsInRange }
-    ensures read { IfOk result (λ asked. IsRead (Some (codes "trace", rows_of (found_of given.now))) asked) }
-    ensures taken { (asked : Asked) → IsRead (Some (codes "trace", rows_of (found_of given.now))) asked → IsInRange asked
-        → IfErr result (λ e. e ≡ AskedFault.Memory) }
-{
-    let workers = number(alloc, given, "workers", 1, 64)?;
-    let game = optional_path(alloc, given, "GAME")?;
-    Ok(Asked::Trace { workers, game })
 }

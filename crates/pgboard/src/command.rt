@@ -15,7 +15,8 @@ use crate::arguments::Asked;
 use crate::fault::AskedFault;
 use clap::error::ErrorKind;
 use clap::{Arg, ArgAction, Command, Error, value_parser};
-use std::alloc::{AllocError, Global};
+use pg_game::Memory;
+use std::alloc::Global;
 
 /// What the words after the program's name ask for.
 ///
@@ -39,7 +40,7 @@ pub fn asked(alloc: Global, words: &[&str]) -> Result<Asked, AskedFault>
 }
 
 /// The program's command. Its words are those after the program's name.
-fn command<'a>(alloc: Global) -> Result<Command<'a>, AllocError>
+fn command<'a>(alloc: Global) -> Result<Command<'a>, Memory>
     ensures { IfOk result (λ command. app_of command ≡ program) }
 {
     let alone = Command::new(alloc, "pgboard")
@@ -102,8 +103,8 @@ fn path<'a>(alloc: Global, name: &'a str, help: &'a str) -> Arg<'a>
 /// The command with one more subcommand.
 fn with<'a>(
     command: Command<'a>,
-    subcommand: Result<Command<'a>, AllocError>,
-) -> Result<Command<'a>, AllocError>
+    subcommand: Result<Command<'a>, Memory>,
+) -> Result<Command<'a>, Memory>
     ensures { (shape : Shape) → IfOk subcommand.entry (λ added. IsCommand shape added)
         → IfOk result (λ r. app_of r ≡ with_subcommand (app_of command.entry) shape) }
 {
@@ -140,7 +141,7 @@ fn known<'a>(alloc: Global) -> Arg<'a>
 }
 
 /// The command `verify`, with its files.
-fn verify_command<'a>(alloc: Global) -> Result<Command<'a>, AllocError>
+fn verify_command<'a>(alloc: Global) -> Result<Command<'a>, Memory>
     ensures { IfOk result (λ command. IsCommand verify_command command) }
 {
     subcommand(alloc, "verify", VERIFY, LONG_VERIFY)
@@ -158,7 +159,7 @@ Example:{n}  \
 pgboard verify game.pg game.sol && echo right";
 
 /// The command `solve`, with its flags and its file.
-fn solve_command<'a>(alloc: Global) -> Result<Command<'a>, AllocError>
+fn solve_command<'a>(alloc: Global) -> Result<Command<'a>, Memory>
     ensures { IfOk result (λ command. IsCommand solve_command command) }
 {
     subcommand(alloc, "solve", SOLVE, LONG_SOLVE)
@@ -223,7 +224,7 @@ fn bound<'a>(alloc: Global) -> Arg<'a>
 }
 
 /// The command `trace`, with its flag and its file.
-fn trace_command<'a>(alloc: Global) -> Result<Command<'a>, AllocError>
+fn trace_command<'a>(alloc: Global) -> Result<Command<'a>, Memory>
     ensures { IfOk result (λ command. IsCommand trace_command command) }
 {
     subcommand(alloc, "trace", TRACE, LONG_TRACE)
@@ -240,7 +241,7 @@ Example:{n}  \
 pgboard trace --workers 1 game.pg";
 
 /// The command `tidy`, with its file.
-fn tidy_command<'a>(alloc: Global) -> Result<Command<'a>, AllocError>
+fn tidy_command<'a>(alloc: Global) -> Result<Command<'a>, Memory>
     ensures { IfOk result (λ command. IsCommand tidy_command command) }
 {
     subcommand(alloc, "tidy", TIDY, LONG_TIDY).arg(game(alloc))
@@ -274,7 +275,7 @@ fn help_or_fault(alloc: Global, error: &Error) -> Result<Asked, AskedFault>
 }
 
 /// The text of the version without the blanks that fill the place of what a build says of itself.
-fn without_last_blanks(alloc: Global, text: &str) -> Result<String, AllocError> {
+fn without_last_blanks(alloc: Global, text: &str) -> Result<String, Memory> {
     let mut kept = String::from_str(alloc, text.trim_end())?;
     kept.push('\n')?;
     Ok(kept)

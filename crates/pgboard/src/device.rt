@@ -10,8 +10,9 @@ ghost use Rattle.pgboard.specs.Run.{Reads};
 ghost use Rattle.pg_text.specs.Reading.{max_text};
 
 use crate::fault::RunFault;
+use pg_game::Memory;
 use pg_text::MAX_TEXT;
-use std::alloc::{AllocError, Global};
+use std::alloc::Global;
 use std::io::{Read, Write};
 
 /// A read or a write failed.
@@ -203,7 +204,7 @@ fn read_into<S: Source>(source: &mut S, buffer: Vec<u8>) -> Result<Vec<u8>, RunF
 
 /// Adds zeros after the bytes that were read, for the next ones: as many as the capacity allows, up to a piece. If a text
 /// fills its capacity, the buffer grows.
-fn grow(text: &mut Vec<u8>, filled: usize) -> Result<(), AllocError>
+fn grow(text: &mut Vec<u8>, filled: usize) -> Result<(), Memory>
     requires limit { filled ≤ max_text }
     requires within { filled ≤ vec_len text.old }
     ensures prefix { OnOk result (take filled text.new.items ≡ take filled text.old.items) }

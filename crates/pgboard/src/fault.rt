@@ -4,8 +4,10 @@ ghost use Rattle.std.specs.Prelude.{◌≡◌};
 ghost use Rattle.pgboard.specs.Asking.{Says};
 ghost use Rattle.pgboard.specs.Status.{status_of, asked_status_of};
 
+use pg_game::Memory;
 use pg_text::{SolutionTextFault, TextFault};
-use std::alloc::{AllocError, AllocFailed, Global};
+use pg_workers::KnownFault;
+use std::alloc::{AllocFailed, Global};
 use thiserror::Error;
 
 /// Why a run has no result.
@@ -48,32 +50,15 @@ impl RunFault {
     }
 }
 
-impl From<AllocError> for RunFault {
+impl From<Memory> for RunFault {
     ghost use Rattle.std.specs.Prelude.{◌≡◌};
     ghost use Rattle.pgboard.specs.declared.fault.RunFault.{RunFault};
 
     ghost from_gives = { λ _ e. e ≡ RunFault.Memory };
 
-    fn from(_error: AllocError) -> RunFault {
+    fn from(_error: Memory) -> RunFault {
         RunFault::Memory
     }
-}
-
-/// Why a player's known set is no region, by identifiers: the reason of the refused post.
-#[derive(Clone, Copy, Debug, Drop, PartialEq, Eq, Error)]
-pub enum KnownFault {
-    /// The first vertex that the player owns without a choice, or with one that is no successor.
-    #[error("bad choice or none at {0}")]
-    Choice(u32),
-    /// The least vertex with the opponent's parity that is the greatest on a closed walk of kept edges inside the set.
-    #[error("bad cycle at {0}")]
-    Cycle(u32),
-    /// The least vertex of the set that the opponent attracts to his own known set.
-    #[error("{0} is lost")]
-    Lost(u32),
-    /// The first kept edge that leads out of the set.
-    #[error("{0} leaves to {1}")]
-    Open(u32, u32),
 }
 
 /// Why a command line was refused.
@@ -120,13 +105,13 @@ impl<T: Drop> From<AllocFailed<T>> for AskedFault {
     }
 }
 
-impl From<AllocError> for AskedFault {
+impl From<Memory> for AskedFault {
     ghost use Rattle.std.specs.Prelude.{◌≡◌};
     ghost use Rattle.pgboard.specs.declared.fault.AskedFault.{AskedFault};
 
     ghost from_gives = { λ _ e. e ≡ AskedFault.Memory };
 
-    fn from(_error: AllocError) -> AskedFault {
+    fn from(_error: Memory) -> AskedFault {
         AskedFault::Memory
     }
 }

@@ -1,26 +1,25 @@
 //! The runs that solve a game, from what is known of it or from nothing, over any sources and sink. A fault names vertices by
 //! their identifiers.
 
-ghost use Rattle.std.specs.Prelude.{◌≡◌, ◌≤◌, ◌⊎◌, [], length, None, IfOk, IfErr, slice_get};
-ghost use Rattle.pg_game.specs.declared.player.Player.{Player};
+ghost use Rattle.std.specs.Prelude.{◌≡◌, ◌≤◌, ◌⊎◌, length, None, IfOk, IfErr, slice_get};
 ghost use Rattle.pg_game.specs.Graph.{Graph, IsGame};
 ghost use Rattle.pg_board.specs.Work.{total_of};
-ghost use Rattle.pg_workers.specs.KnownRegions.{IsKnownRegion, IsSolveFault, KeepsKnown, NamesVertices};
+ghost use Rattle.pg_workers.specs.KnownRegions.{IsSolveFault, KeepsKnown};
 ghost use Rattle.pg_workers.specs.Outcomes.{IsOutcome};
 ghost use Rattle.pgboard.specs.Device.{HasFailed};
 ghost use Rattle.pgboard.specs.KnownSource.{left_in, IfGiven, OnGiven};
-ghost use Rattle.pgboard.specs.Refused.{by_identifiers, IsNotKnown};
-ghost use Rattle.pgboard.specs.private.Refused.{IsUnsolved};
+ghost use Rattle.pgboard.specs.Refused.{IsNotKnown};
+ghost use Rattle.pgboard.specs.private.Run.{IsNotSolved};
 ghost use Rattle.pgboard.specs.Run.{IsReadGame, IsNoGame, Reads, ReadsInTurn, Writes};
 ghost use Rattle.pgboard.specs.Solving.{IsSolveText, IsSolveOutput, IsTraceText};
 ghost use Rattle.pg_text.specs.Solution.{IsExactSolution};
 
 use crate::device::{Sink, Source, write_all};
-use crate::fault::{KnownFault, RunFault};
+use crate::fault::RunFault;
 use crate::reading::{game_from, known_from, nothing_known};
 use crate::trace::write_trace;
 use pg_finders::Finder;
-use pg_game::{Game, Memory};
+use pg_game::Memory;
 use pg_text::{Solution, write_solution, write_winners};
 use pg_workers::{BUDGET, Gate, KnownOf, Options, Outcome, SolveFault, known_fault, solve_game};
 use std::alloc::Global;
@@ -140,7 +139,7 @@ fn outcome<R: Threads + Wait + Sync>(
     requires bound { options.now.bound ≤ 8 }
     ensures outcome { IfOk result (λ o. IsOutcome of.now.game.now of.now.known.now.rows
         (total_of options.now.bound (length of.now.game.now)) options.now.workers o) }
-    ensures fault { IfErr result (λ e. IsUnsolved of.now.game.now of.now.known.now.rows e) }
+    ensures fault { IfErr result (λ e. IsNotSolved of.now.game.now of.now.known.now.rows e) }
 {
     match solve_game(rt, alloc, of.game, options, of.known, gate, finder) {
         Ok(outcome) => Ok(outcome),
@@ -151,26 +150,11 @@ fn outcome<R: Threads + Wait + Sync>(
 /// Why the game is not solved.
 fn unsolved(of: &KnownOf<'_>, fault: SolveFault) -> RunFault
     requires { IsSolveFault of.now.game.now of.now.known.now.rows fault }
-    ensures { IsUnsolved of.now.game.now of.now.known.now.rows result }
+    ensures { IsNotSolved of.now.game.now of.now.known.now.rows result }
 {
     match fault {
-        SolveFault::Known(player, refusal) => {
-            RunFault::Known(by_identifiers(of.game, known_fault(of, player, refusal)))
-        }
+        SolveFault::Known(player, refusal) => RunFault::Known(known_fault(of, player, refusal)),
         SolveFault::Memory => RunFault::Memory,
-    }
-}
-
-/// The fault of a known set, with the identifiers of its vertices.
-fn by_identifiers(game: &Game, fault: pg_workers::KnownFault) -> KnownFault
-    requires { NamesVertices game.now fault }
-    ensures { result ≡ by_identifiers game.now fault }
-{
-    match fault {
-        pg_workers::KnownFault::Choice(v) => KnownFault::Choice(game.id(v)),
-        pg_workers::KnownFault::Cycle(v) => KnownFault::Cycle(game.id(v)),
-        pg_workers::KnownFault::Lost(v) => KnownFault::Lost(game.id(v)),
-        pg_workers::KnownFault::Open(v, w) => KnownFault::Open(game.id(v), game.id(w)),
     }
 }
 

@@ -7,14 +7,14 @@ ghost use Rattle.pg_game.specs.Player.{digit_of};
 ghost use Rattle.pg_text.specs.Written.{numeral};
 ghost use Rattle.pg_board.specs.Journal.{number_settled};
 ghost use Rattle.pgboard.specs.Trace.{trace_line, row_line, entry_text, entries_text, job_line, total_line, trace_text, flag_word, worker_word};
-ghost use Rattle.pgboard.specs.private.Trace.{AreVertices};
+ghost use Rattle.pgboard.specs.private.Run.{NamesVertices};
 
 use itoa::Buffer;
 use pg_board::Entry;
-use pg_game::Game;
+use pg_game::{Game, Memory};
 use pg_text::{choice_before, end_before, number_before, put_number};
 use pg_workers::ReportRow;
-use std::alloc::{AllocError, Global};
+use std::alloc::Global;
 
 /// The whole text of a run on a game: the journal, the report and its sums.
 pub(crate) fn write_trace(
@@ -22,8 +22,8 @@ pub(crate) fn write_trace(
     game: &Game,
     entries: &[Entry],
     report: &[ReportRow],
-) -> Result<Vec<u8>, AllocError>
-    requires { AllByRecursion (λ e. AllByRecursion (AreVertices (length game.now)) e.rows) entries.now }
+) -> Result<Vec<u8>, Memory>
+    requires { AllByRecursion (λ e. AllByRecursion (NamesVertices (length game.now)) e.rows) entries.now }
     ensures { IfOk result (λ text. text.items ≡ trace_text game.now entries.now report.now) }
 {
     let mut out = Vec::with_capacity(alloc, trace_capacity(entries, report))?;
@@ -58,7 +58,7 @@ const ROW: usize = 23;
 const ENTRY: usize = 82;
 
 /// The first line.
-fn put_journal_head(out: &mut Vec<u8>, entries: u64, settled: u128) -> Result<(), AllocError>
+fn put_journal_head(out: &mut Vec<u8>, entries: u64, settled: u128) -> Result<(), Memory>
     ensures { OnOk result (out.new.items ≡ out.old.items ++ trace_line (codes "journal" ∷ numeral entries ∷ numeral settled ∷ [])) }
 {
     put(out, b"journal")?;
@@ -67,15 +67,15 @@ fn put_journal_head(out: &mut Vec<u8>, entries: u64, settled: u128) -> Result<()
     put(out, b"\n")
 }
 
-/// Bytes as they are.
-fn put(out: &mut Vec<u8>, bytes: &[u8]) -> Result<(), AllocError>
+/// Adds the bytes.
+fn put(out: &mut Vec<u8>, bytes: &[u8]) -> Result<(), Memory>
     ensures { OnOk result (out.new.items ≡ out.old.items ++ bytes.now) }
 {
     out.extend_from_slice(bytes)
 }
 
 /// A space and a number.
-fn put_next(out: &mut Vec<u8>, n: u64) -> Result<(), AllocError>
+fn put_next(out: &mut Vec<u8>, n: u64) -> Result<(), Memory>
     ensures { OnOk result (out.new.items ≡ out.old.items ++ (32 ∷ numeral n)) }
 {
     put(out, b" ")?;
@@ -83,7 +83,7 @@ fn put_next(out: &mut Vec<u8>, n: u64) -> Result<(), AllocError>
 }
 
 /// A space and a sum.
-fn put_sum(out: &mut Vec<u8>, n: u128) -> Result<(), AllocError>
+fn put_sum(out: &mut Vec<u8>, n: u128) -> Result<(), Memory>
     ensures { OnOk result (out.new.items ≡ out.old.items ++ (32 ∷ numeral n)) }
 {
     put(out, b" ")?;
@@ -102,8 +102,8 @@ fn settled_in(entries: &[Entry]) -> u128
 }
 
 /// All entries, numbered from 0.
-fn put_entries(out: &mut Vec<u8>, game: &Game, entries: &[Entry]) -> Result<(), AllocError>
-    requires { AllByRecursion (λ e. AllByRecursion (AreVertices (length game.now)) e.rows) entries.now }
+fn put_entries(out: &mut Vec<u8>, game: &Game, entries: &[Entry]) -> Result<(), Memory>
+    requires { AllByRecursion (λ e. AllByRecursion (NamesVertices (length game.now)) e.rows) entries.now }
     ensures { OnOk result (out.new.items ≡ out.old.items ++ entries_text game.now 0 entries.now) }
 {
     for i in 0..entries.len() {
@@ -113,8 +113,8 @@ fn put_entries(out: &mut Vec<u8>, game: &Game, entries: &[Entry]) -> Result<(), 
 }
 
 /// An entry: its head and its rows.
-fn put_entry(out: &mut Vec<u8>, game: &Game, number: u64, entry: &Entry) -> Result<(), AllocError>
-    requires { AllByRecursion (AreVertices (length game.now)) entry.now.rows }
+fn put_entry(out: &mut Vec<u8>, game: &Game, number: u64, entry: &Entry) -> Result<(), Memory>
+    requires { AllByRecursion (NamesVertices (length game.now)) entry.now.rows }
     ensures { OnOk result (out.new.items ≡ out.old.items ++ entry_text game.now number entry.now) }
 {
     put_entry_head(out, number, entry)?;
@@ -122,7 +122,7 @@ fn put_entry(out: &mut Vec<u8>, game: &Game, number: u64, entry: &Entry) -> Resu
 }
 
 /// The line above an entry's rows.
-fn put_entry_head(out: &mut Vec<u8>, number: u64, entry: &Entry) -> Result<(), AllocError>
+fn put_entry_head(out: &mut Vec<u8>, number: u64, entry: &Entry) -> Result<(), Memory>
     ensures { OnOk result (out.new.items ≡ out.old.items
         ++ trace_line (codes "entry" ∷ numeral number ∷ numeral entry.now.worker ∷ numeral (digit_of entry.now.player)
         ∷ numeral entry.now.claimed ∷ numeral (length entry.now.rows) ∷ [])) }
@@ -137,8 +137,8 @@ fn put_entry_head(out: &mut Vec<u8>, number: u64, entry: &Entry) -> Result<(), A
 }
 
 /// The lines of an entry's rows.
-fn put_rows(out: &mut Vec<u8>, game: &Game, rows: &[(u32, Option<u32>)]) -> Result<(), AllocError>
-    requires { AllByRecursion (AreVertices (length game.now)) rows.now }
+fn put_rows(out: &mut Vec<u8>, game: &Game, rows: &[(u32, Option<u32>)]) -> Result<(), Memory>
+    requires { AllByRecursion (NamesVertices (length game.now)) rows.now }
     ensures { OnOk result (out.new.items ≡ out.old.items ++ flat_map (row_line game.now) rows.now) }
 {
     for row in rows {
@@ -148,8 +148,8 @@ fn put_rows(out: &mut Vec<u8>, game: &Game, rows: &[(u32, Option<u32>)]) -> Resu
 }
 
 /// The line of a settled vertex, written from its end.
-fn put_row(out: &mut Vec<u8>, game: &Game, row: &(u32, Option<u32>)) -> Result<(), AllocError>
-    requires { AreVertices (length game.now) row.now }
+fn put_row(out: &mut Vec<u8>, game: &Game, row: &(u32, Option<u32>)) -> Result<(), Memory>
+    requires { NamesVertices (length game.now) row.now }
     ensures { OnOk result (out.new.items ≡ out.old.items ++ row_line game.now row.now) }
 {
     let mut buffer = [0u8; ROW];
@@ -161,7 +161,7 @@ fn put_row(out: &mut Vec<u8>, game: &Game, row: &(u32, Option<u32>)) -> Result<(
 }
 
 /// The line above the jobs.
-fn put_report_head(out: &mut Vec<u8>, jobs: u64) -> Result<(), AllocError>
+fn put_report_head(out: &mut Vec<u8>, jobs: u64) -> Result<(), Memory>
     ensures { OnOk result (out.new.items ≡ out.old.items ++ trace_line (codes "report" ∷ numeral jobs ∷ [])) }
 {
     put(out, b"report")?;
@@ -170,7 +170,7 @@ fn put_report_head(out: &mut Vec<u8>, jobs: u64) -> Result<(), AllocError>
 }
 
 /// The lines of all jobs.
-fn put_jobs(out: &mut Vec<u8>, report: &[ReportRow]) -> Result<(), AllocError>
+fn put_jobs(out: &mut Vec<u8>, report: &[ReportRow]) -> Result<(), Memory>
     ensures { OnOk result (out.new.items ≡ out.old.items ++ flat_map job_line report.now) }
 {
     for row in report {
@@ -180,7 +180,7 @@ fn put_jobs(out: &mut Vec<u8>, report: &[ReportRow]) -> Result<(), AllocError>
 }
 
 /// The line of a job.
-fn put_job(out: &mut Vec<u8>, row: &ReportRow) -> Result<(), AllocError>
+fn put_job(out: &mut Vec<u8>, row: &ReportRow) -> Result<(), Memory>
     ensures { OnOk result (out.new.items ≡ out.old.items ++ job_line row.now) }
 {
     put(out, b"job")?;
@@ -196,7 +196,7 @@ fn put_job(out: &mut Vec<u8>, row: &ReportRow) -> Result<(), AllocError>
 }
 
 /// A space and the worker, or `-` if there is none.
-fn put_worker(out: &mut Vec<u8>, worker: Option<u32>) -> Result<(), AllocError>
+fn put_worker(out: &mut Vec<u8>, worker: Option<u32>) -> Result<(), Memory>
     ensures { OnOk result (out.new.items ≡ out.old.items ++ (32 ∷ worker_word worker)) }
 {
     match worker {
@@ -206,14 +206,14 @@ fn put_worker(out: &mut Vec<u8>, worker: Option<u32>) -> Result<(), AllocError>
 }
 
 /// A space and 1 or 0.
-fn put_flag(out: &mut Vec<u8>, flag: bool) -> Result<(), AllocError>
+fn put_flag(out: &mut Vec<u8>, flag: bool) -> Result<(), Memory>
     ensures { OnOk result (out.new.items ≡ out.old.items ++ (32 ∷ flag_word flag)) }
 {
     put(out, if flag { b" 1" } else { b" 0" })
 }
 
 /// The last line.
-fn put_total(out: &mut Vec<u8>, report: &[ReportRow]) -> Result<(), AllocError>
+fn put_total(out: &mut Vec<u8>, report: &[ReportRow]) -> Result<(), Memory>
     ensures { OnOk result (out.new.items ≡ out.old.items ++ total_line report.now) }
 {
     let sums = sums_of(report);

@@ -1,7 +1,7 @@
 //! The runs that need no worker, over any sources and sink: to judge a solution of a game, and to write a game in its one
 //! written form. Each makes its whole output before it writes.
 
-ghost use Rattle.std.specs.Prelude.{◌≡◌, ◌≤◌, ◌⊎◌, IfErr, IfSome, length, ◌≢◌, IfOk, OnOk, IsErrOf, ◌++◌, ℕ, List};
+ghost use Rattle.std.specs.Prelude.{◌≡◌, ◌≤◌, ◌⊎◌, IfErr, IfSome, length, ◌≢◌, IfOk, OnOk, IsErrOf, ◌++◌};
 ghost use Rattle.std.specs.Io.KnownBytes.{Appends, Keeps};
 ghost use Rattle.pg_game.specs.Graph.{Graph};
 ghost use Rattle.pg_text.specs.Written.{written_game, numeral};
@@ -17,9 +17,9 @@ use crate::fault::RunFault;
 use crate::reading::{forward_game_from, forward_game_of, refused_solution, solution_from};
 use memchr::memchr;
 use pg_dominion::{SolutionFault, check_forward_solution};
-use pg_game::ForwardGame;
+use pg_game::{ForwardGame, Memory};
 use pg_text::{Solution, put_number, read_forward_solution, write_forward_game};
-use std::alloc::{AllocError, Global};
+use std::alloc::Global;
 
 /// The verdict on winners and choices for all vertices of a game.
 #[derive(Clone, Copy, Debug, Drop, PartialEq, Eq)]
@@ -42,7 +42,7 @@ impl Verdict {
     }
 
     /// The line of the verdict. The only error is `Memory`.
-    pub fn line(&self, alloc: Global) -> Result<Vec<u8>, AllocError>
+    pub fn line(&self, alloc: Global) -> Result<Vec<u8>, Memory>
         ensures { IfOk result (λ line. line.items ≡ verdict_line self.now) }
     {
         match self {
@@ -77,7 +77,7 @@ pub fn run_joined<I: Source, O: Sink>(
     Ok(verdict)
 }
 
-/// Reads a game and then a solution, and writes whether it is one. The game is read and judged before the solution
+/// Reads a game and then a solution, and writes whether it is one. A game with a fault is refused before the solution
 /// is read.
 pub fn run_verify<G: Source, S: Source, O: Sink>(
     alloc: Global,
@@ -116,7 +116,7 @@ pub fn run_tidy<I: Source, O: Sink>(
 }
 
 /// Adds what is wrong.
-fn put_fault(fault: &SolutionFault, line: &mut Vec<u8>) -> Result<(), AllocError>
+fn put_fault(fault: &SolutionFault, line: &mut Vec<u8>) -> Result<(), Memory>
     ensures { OnOk result (line.new.items ≡ line.old.items ++ fault_text fault.now) }
 {
     match fault {
@@ -133,7 +133,7 @@ fn put_fault(fault: &SolutionFault, line: &mut Vec<u8>) -> Result<(), AllocError
 }
 
 /// Adds the words, and then the identifier.
-fn put_named(words: &[u8], id: u32, line: &mut Vec<u8>) -> Result<(), AllocError>
+fn put_named(words: &[u8], id: u32, line: &mut Vec<u8>) -> Result<(), Memory>
     ensures { OnOk result (line.new.items ≡ line.old.items ++ (words.now ++ numeral id)) }
 {
     line.extend_from_slice(words)?;

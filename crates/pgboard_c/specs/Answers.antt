@@ -67,16 +67,16 @@ AreUnfitResults g r other = ⊥
 
 -- why solving has no result, with the results before the call; under a limit of steps that may be too low also that it gave up, on a game
 -- and results that it could solve
-abbrev pub IsSolveFault : Option ℕ → GameLists → ResultLists → Fault → Type 0
-IsSolveFault limit a r (fault.Size structure.Results) = (g : Graph) × IsGameOfArrays a g × AreUnfitResults g r (fault.Size structure.Results)
-IsSolveFault limit a r (fault.Results name) = (g : Graph) × IsGameOfArrays a g × AreUnfitResults g r (fault.Results name)
-IsSolveFault limit a r fault.GaveUp = (g : Graph) × IsGameOfArrays a g × HaveSize g r × MayGiveUp limit (length g)
-IsSolveFault limit a r other = IsArraysFault a other
+abbrev pub IsSolveArraysFault : Option ℕ → GameLists → ResultLists → Fault → Type 0
+IsSolveArraysFault limit a r (fault.Size structure.Results) = (g : Graph) × IsGameOfArrays a g × AreUnfitResults g r (fault.Size structure.Results)
+IsSolveArraysFault limit a r (fault.Results name) = (g : Graph) × IsGameOfArrays a g × AreUnfitResults g r (fault.Results name)
+IsSolveArraysFault limit a r fault.GaveUp = (g : Graph) × IsGameOfArrays a g × HaveSize g r × MayGiveUp limit (length g)
+IsSolveArraysFault limit a r other = IsArraysFault a other
 
 -- the game is solved, or not, and the results are unchanged
 abbrev pub IsSolveOutcome : Option ℕ → GameLists → Results → Results → Result (Unit {0}) Fault → Type 0
 IsSolveOutcome limit a old new result = MatchResult result
-    (λ _. AreSolved a (result_lists new) × IsSameStruct old new) (λ e. IsSolveFault limit a (result_lists old) e × AreUnchanged old new)
+    (λ _. AreSolved a (result_lists new) × IsSameStruct old new) (λ e. IsSolveArraysFault limit a (result_lists old) e × AreUnchanged old new)
 
 -- why a solution's struct does not have winners and choices of the game's vertices
 abbrev pub IsUnfitSolution : Graph → ResultLists → Fault → Type 0

@@ -1,13 +1,12 @@
 -- A game in arrays: compressed sparse rows. Winners and choices in arrays.
-use Rattle.std.specs.Prelude.{ℕ, zero, suc, ◌≡◌, ◌+◌, ◌<◌, ◌⊎◌, ◌==◌, List, [], ◌∷◌, ◌++◌, length, slice_index}
+use Rattle.std.specs.Prelude.{ℕ, ◌≡◌, ◌+◌, ◌<◌, ◌⊎◌, ◌==◌, List, length, map, slice_index}
 use Rattle.std.specs.Prelude.{if◌then◌else◌, Option, Some, None}
-use Rattle.std.specs.List.{slice_range}
+use Rattle.std.specs.List.{range_with_len, slice_range}
 use Rattle.pg_game.specs.declared.specification.Spec.{Spec}
-use Rattle.pg_game.specs.Player.{digit_of}
+use Rattle.pg_game.specs.Player.{digit_of, of_digit}
 use Rattle.pg_game.specs.Graph.{Graph, IsGame}
 use Rattle.pg_game.specs.Specification.{IsGameOf, max_number}
 use Rattle.pg_game.specs.Least.{NoneHas}
-use Rattle.pg_text.specs.GameText.{player_of}
 use Rattle.pg_text.specs.Solution.{SolutionRows, winner_of, choice_of}
 use Rattle.pgboard_c.specs.declared.arrays.GameArrays.{GameArrays}
 use Rattle.pgboard_c.specs.declared.arrays.Results.{Results}
@@ -56,15 +55,11 @@ pub record AreWellFormed (a : GameLists) : Type 0 where
 
 -- the vertex of the arrays: its identifier is its number
 abbrev pub array_spec : GameLists → ℕ → Spec
-array_spec a v = record { id = v; priority = slice_index a.priorities v; owner = player_of (slice_index a.owners v); successors = targets_of a v }
+array_spec a v = record { id = v; priority = slice_index a.priorities v; owner = of_digit (slice_index a.owners v); successors = targets_of a v }
 
--- the vertices of the arrays below a number, in order
-abbrev pub specs_below : GameLists → ℕ → List Spec
-specs_below a zero = []
-specs_below a (suc v) = specs_below a v ++ array_spec a v ∷ []
-
+-- the vertices of the arrays, in order
 abbrev pub array_specs : GameLists → List Spec
-array_specs a = specs_below a (length a.owners)
+array_specs a = map (array_spec a) (range_with_len 0 (length a.owners))
 
 -- the game of the arrays
 abbrev pub IsGameOfArrays : GameLists → Graph → Type 0

@@ -6,8 +6,7 @@ use Rattle.pg_game.specs.declared.player.Player.{Player}
 use Rattle.pg_game.specs.Player.{digit_of}
 use Rattle.pg_game.specs.Graph.{Graph}
 use Rattle.pg_text.specs.Solution.{SolutionRows, IsExactSolution}
-use Rattle.pg_board.specs.BoardRecord.{BoardRecord}
-use Rattle.pg_board.specs.SessionRecord.{SessionRecord}
+use Rattle.pg_board.specs.BoardRecord.{BoardRecord, SessionRecord}
 use Rattle.pg_board.specs.Board.{IsLawfulBoard}
 use Rattle.pg_board.specs.Slices.{most_slices, IsCharged}
 use Rattle.pg_board.specs.Journal.{state_of, number_settled}
@@ -149,7 +148,7 @@ pub record IsAdvanceOutcome (old_steps new_steps : ℕ) (old new : Option Sessio
   pub steps : new_steps ≤ old_steps
 
 -- the board is full, and the arrays have its winners and choices, which are the game's solution
-pub record AreSolution (s : BoardRecord) (r : ResultLists) : Type 0 where
+pub record AreBoardSolution (s : BoardRecord) (r : ResultLists) : Type 0 where
   pub full : IsFull s.graph (state_of s.journal)
   pub fit : HaveSize s.graph r
   pub rows : SolutionRows
@@ -165,4 +164,4 @@ IsSolutionFault s r e = AreUnfitResults s.graph r e
 
 abbrev pub IsSolutionOutcome : Results → Results → SessionOutcome
 IsSolutionOutcome old new =
-    IsReadOutcome (λ s. AreSolution s (result_lists new) × IsSameStruct old new) (λ s. IsSolutionFault s (result_lists old)) (AreUnchanged old new)
+    IsReadOutcome (λ s. AreBoardSolution s (result_lists new) × IsSameStruct old new) (λ s. IsSolutionFault s (result_lists old)) (AreUnchanged old new)

@@ -12,17 +12,17 @@ use Rattle.pgboard_c.specs.Texts.{TextBuffer, IsWritten}
 use Rattle.pgboard_c.specs.Board.{SessionOutcome, IsReadOutcome, IsUnsettledBy}
 
 -- the board is full, and the text has its winners and choices, which are the game's solution
-abbrev pub IsSolutionText : BoardRecord → List ℕ → Type 0
-IsSolutionText s text = IsFull s.graph (state_of s.journal) × ((rows : SolutionRows) × IsExactSolution s.graph rows
+abbrev pub IsBoardSolutionText : BoardRecord → List ℕ → Type 0
+IsBoardSolutionText s text = IsFull s.graph (state_of s.journal) × ((rows : SolutionRows) × IsExactSolution s.graph rows
     × AreStateRows s.graph (state_of s.journal) rows × (text ≡ written_solution s.graph rows))
 
 -- why a board's solution is not written; refused memory says nothing of it
 abbrev pub IsSolutionTextFault : BoardRecord → ℕ → Fault → Type 0
 IsSolutionTextFault s capacity fault.Memory = Unit {0}
 IsSolutionTextFault s capacity (fault.Board (board_fault.Unsettled n)) = IsUnsettledBy s n
-IsSolutionTextFault s capacity (fault.Capacity size) = (text : List ℕ) × IsSolutionText s text × (size ≡ length text) × (capacity < size)
+IsSolutionTextFault s capacity (fault.Capacity size) = (text : List ℕ) × IsBoardSolutionText s text × (size ≡ length text) × (capacity < size)
 IsSolutionTextFault s capacity other = ⊥
 
 abbrev pub IsSolutionTextOutcome : TextBuffer → TextBuffer → SessionOutcome
-IsSolutionTextOutcome old new = IsReadOutcome (λ s. (answer : List ℕ) × IsSolutionText s answer × IsWritten old new answer)
+IsSolutionTextOutcome old new = IsReadOutcome (λ s. (answer : List ℕ) × IsBoardSolutionText s answer × IsWritten old new answer)
     (λ s. IsSolutionTextFault s (length old.bytes)) (new ≡ old)

@@ -3,7 +3,7 @@ use Rattle.std.specs.Prelude.{ℕ, ◌≡◌, ◌≢◌, ◌<◌, ◌==◌, List
 use Rattle.pg_game.specs.declared.player.Player.{Player}
 use Rattle.pg_game.specs.Graph.{Graph}
 use Rattle.pg_game.specs.Least.{NoneHas, IsLeast}
-use Rattle.pg_text.specs.GameText.{player_of}
+use Rattle.pg_game.specs.Player.{of_digit}
 use Rattle.pg_text.specs.Known.{KnownRows, known_at}
 use Rattle.pg_text.specs.Solution.{SolutionRows, IsExactSolution}
 use Rattle.pg_board.specs.Finish.{MayGiveUp}
@@ -20,7 +20,7 @@ abbrev pub no_winner : ℕ
 no_winner = 255
 
 abbrev pub known_from : ℕ → ℕ → Option (Player × Option ℕ)
-known_from winner choice = if winner == no_winner then None else Some (player_of winner, choice_from choice)
+known_from winner choice = if winner == no_winner then None else Some (of_digit winner, choice_from choice)
 
 -- what is known of each vertex by the arrays
 pub record AreKnown (winners choices : List ℕ) (rows : KnownRows) : Type 0 where

@@ -1,9 +1,9 @@
 -- A claim in arrays, and the answers of the call that posts it.
-use Rattle.std.specs.Prelude.{ℕ, ◌≡◌, ◌≢◌, ◌<◌, ◌≤◌, ◌⊎◌, ◌++◌, ◌∷◌, [], List, zero, suc, length, slice_index, Ok, Err}
-use Rattle.pg_text.specs.GameText.{player_of}
+use Rattle.std.specs.Prelude.{ℕ, ◌≡◌, ◌≢◌, ◌<◌, ◌≤◌, ◌⊎◌, List, Option, length, map, slice_index, Ok, Err}
+use Rattle.std.specs.List.{range_with_len}
+use Rattle.pg_game.specs.Player.{of_digit}
 use Rattle.pg_dominion.specs.declared.claim.Claim.{Claim}
 use Rattle.pg_dominion.specs.declared.claim.ClaimFault.TheVariants as claim_fault
-use Rattle.pg_dominion.specs.Claim.{ClaimRows}
 use Rattle.pg_board.specs.declared.journal.Posted.{Posted}
 use Rattle.pg_board.specs.declared.journal.Refusal.{Refusal}
 use Rattle.pg_board.specs.declared.journal.Refusal.TheVariants as refusal
@@ -30,13 +30,12 @@ pub record ClaimLists : Type 0 where
 abbrev pub claim_lists : ClaimArrays → ClaimLists
 claim_lists c = record { size = c.size; worker = c.worker; player = c.player; vertices = c.vertices.now; choices = c.choices.now }
 
--- the rows of the arrays before a place, in order
-abbrev pub rows_before : List ℕ → List ℕ → ℕ → ClaimRows
-rows_before vertices choices zero = []
-rows_before vertices choices (suc i) = rows_before vertices choices i ++ (slice_index vertices i, choice_from (slice_index choices i)) ∷ []
+-- the row at a place of the arrays
+abbrev pub claim_row : ClaimLists → ℕ → ℕ × Option ℕ
+claim_row c i = (slice_index c.vertices i, choice_from (slice_index c.choices i))
 
 abbrev pub claim_of_lists : ClaimLists → Claim
-claim_of_lists c = record { player = player_of c.player; rows = rows_before c.vertices c.choices (length c.vertices) }
+claim_of_lists c = record { player = of_digit c.player; rows = map (claim_row c) (range_with_len 0 (length c.vertices)) }
 
 -- the struct has its size, the player is 0 or 1, and the arrays have one length
 pub record IsClaim (c : ClaimLists) : Type 0 where

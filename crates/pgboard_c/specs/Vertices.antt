@@ -2,8 +2,7 @@
 use Rattle.std.specs.Prelude.{ℕ, ◌≡◌, ◌<◌, ◌≤◌, ◌++◌, List, length, drop, Option, Some, None}
 use Rattle.pg_game.specs.Player.{digit_of}
 use Rattle.pg_game.specs.Graph.{id_of, priority_of, owner_of, successors_of}
-use Rattle.pg_board.specs.BoardRecord.{BoardRecord}
-use Rattle.pg_board.specs.SessionRecord.{SessionRecord}
+use Rattle.pg_board.specs.BoardRecord.{BoardRecord, SessionRecord}
 use Rattle.pgboard_c.specs.declared.vertices.VertexNumbers.{VertexNumbers}
 use Rattle.pgboard_c.specs.declared.fault.BoardFault.TheVariants as board_fault
 use Rattle.pgboard_c.specs.declared.fault.Fault.{Fault}

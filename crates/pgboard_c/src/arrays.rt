@@ -7,7 +7,6 @@ ghost use Rattle.pgboard_c.specs.Arrays.{HaveLengths, IsBadRow, IsBadOwner, IsBa
 ghost use Rattle.pgboard_c.specs.Answers.{IsArraysFault, HaveSize, AreUnfitResults, IsUnfitSolution};
 ghost use Rattle.pg_game.specs.Specification.{AreNumbers};
 ghost use Rattle.pg_game.specs.Least.{NoneHas, IsLeast};
-ghost use Rattle.pg_text.specs.GameText.{player_of};
 ghost use Rattle.pg_game.specs.Player.{digit_of};
 ghost use Rattle.pg_text.specs.Solution.{choice_of};
 
@@ -72,7 +71,8 @@ impl<'a> GameArrays<'a> {
         let mut specs = GameBuilder::with_capacity(alloc, n, self.starts[n] as usize)?;
         for v in 0..n {
             let row = &self.targets[self.starts[v] as usize..self.starts[v + 1] as usize];
-            specs.push(v as u32, self.priorities[v], player_of(self.owners[v]), row)?;
+            let owner = Player::of_digit(u32::from(self.owners[v]));
+            specs.push(v as u32, self.priorities[v], owner, row)?;
         }
         Ok(specs)
     }
@@ -209,6 +209,7 @@ impl<'a> SolutionArrays<'a> {
 }
 
 /// Writes the winner and the choice of each vertex.
+#[tactic(auto, using(crate::proofs::arrays::ChoiceNumbers::choice_again))]
 pub fn write_results(solution: &Solution, winners: &mut [u8], choices: &mut [u32])
     requires winners { length winners.old ≡ length solution.now.rows }
     requires choices { length choices.old ≡ length solution.now.rows }
@@ -219,10 +220,7 @@ pub fn write_results(solution: &Solution, winners: &mut [u8], choices: &mut [u32
     for v in 0..rows.len() {
         let (winner, choice) = rows[v];
         winners[v] = winner.digit();
-        choices[v] = match choice {
-            Some(w) => w,
-            None => NO_CHOICE,
-        };
+        choices[v] = number_of(choice);
     }
 }
 
@@ -246,23 +244,12 @@ pub fn read_results(alloc: Global, winners: &[u8], choices: &[u32]) -> Result<So
 {
     let mut rows = Vec::with_capacity(alloc, winners.len())?;
     for v in 0..winners.len() {
-        rows.push((player_of(winners[v]), choice_from(choices[v])))?;
+        let winner = Player::of_digit(u32::from(winners[v]));
+        rows.push((winner, choice_from(choices[v])))?;
     }
     Ok(Solution {
         rows: Sequence::new(rows),
     })
-}
-
-/// The player with this digit. Any greater number is read as Odd.
-pub fn player_of(digit: u8) -> Player
-    ensures player { result ≡ player_of digit }
-    ensures digit { digit ≤ 1 → digit ≡ digit_of result }
-{
-    if digit == 0 {
-        Player::Even
-    } else {
-        Player::Odd
-    }
 }
 
 /// The choice of an entry.

@@ -5,11 +5,11 @@ ghost use Rattle.pg_board.specs.declared.journal.Refusal.{Refusal};
 ghost use Rattle.pgboard_c.specs.declared.fault.Fault.{Fault};
 ghost use Rattle.pgboard_c.specs.Posting.{claim_lists, claim_of_lists, IsClaim, IsNoClaim, refusal_fault};
 
-use crate::arrays::{choice_from, player_of};
+use crate::arrays::choice_from;
 use crate::fault::{Fault, PostFault, Structure};
 use pg_board::Refusal;
 use pg_dominion::{Claim, ClaimFault};
-use pg_game::Sequence;
+use pg_game::Player;
 use std::alloc::Global;
 
 /// A claim in arrays: vertices that rise, and the player's choice at each that he owns.
@@ -34,10 +34,7 @@ impl<'a> ClaimArrays<'a> {
         for i in 0..self.vertices.len() {
             rows.push((self.vertices[i], choice_from(self.choices[i])))?;
         }
-        Ok(Claim {
-            player: player_of(self.player as u8),
-            rows: Sequence::new(rows),
-        })
+        Ok(Claim::new(Player::of_digit(self.player), rows))
     }
 
     /// Whether the arrays are a claim, of whatever shape.

@@ -5,7 +5,7 @@
 ghost use Rattle.std.specs.Prelude.{◌≡◌, Option, None, Some, IfOk, IfErr, IsSome, is_some, option_map, false};
 ghost use Rattle.std.specs.Box.Ownership.{box_owns};
 ghost use Rattle.pgboard_c.specs.private.Held.{held};
-ghost use Rattle.pg_board.specs.SessionRecord.{SessionRecord};
+ghost use Rattle.pg_board.specs.BoardRecord.{SessionRecord};
 
 use crate::fault::{BoardFault, Fault};
 use pg_board::Session;

@@ -67,9 +67,8 @@ pub const NO_WINNER: u8 = 255;
 fn known_from(winner: u8, choice: u32) -> Option<(Player, Option<u32>)>
     ensures { result ≡ known_from winner choice }
 {
-    match winner {
-        NO_WINNER => None,
-        0 => Some((Player::Even, choice_from(choice))),
-        _ => Some((Player::Odd, choice_from(choice))),
+    if winner == NO_WINNER {
+        return None;
     }
+    Some((Player::of_digit(u32::from(winner)), choice_from(choice)))
 }

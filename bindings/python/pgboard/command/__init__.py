@@ -86,7 +86,6 @@ def undone(begin, end):
 
 
 def folder():
-    """A temporary folder, which is removed afterwards."""
     return undone(
         lambda: tempfile.mkdtemp(prefix="pgboard-"), lambda path: shutil.rmtree(path, ignore_errors=True)
     )
@@ -227,7 +226,6 @@ WRITES = errno.EPIPE, errno.ENOSPC, errno.EDQUOT, errno.EFBIG, errno.EIO, errno.
 
 
 def fault_of(error):
-    """What is said of an exception that ends a command."""
     if isinstance(error, Refused):
         return error
     if isinstance(error, RecursionError):
@@ -245,7 +243,6 @@ def fault_of(error):
 
 
 def progress(text):
-    """Shows a line on a terminal in place of the last one."""
     if sys.stderr.isatty():
         print(f"\r\x1b[K{text}", end="", file=sys.stderr, flush=True)
 
@@ -281,6 +278,18 @@ def seconds(word):
 
 
 seconds.__name__ = "number of seconds (above 0, up to 1000000)"
+
+
+def of_form(form, what):
+    """What argparse takes as the type of a word that has this form."""
+
+    def word(text):
+        if not re.fullmatch(form, text, re.DOTALL):
+            raise ValueError
+        return text
+
+    word.__name__ = what
+    return word
 
 
 def read(path):

@@ -84,7 +84,6 @@ def verify(game, solution):
 
 
 def check(said):
-    """Ends the command where pgboard has found what is no solution."""
     if said != "ok":
         raise Refused(f"what pgboard solved was refused: {said}", FILE)
 
@@ -115,7 +114,6 @@ class Table:
         return {v: self.number.get(it, none) if is_chosen(v, it) else None for v, it in part.items()}
 
     def rows(self, state):
-        """The rows of a solution or of a part of one."""
         choice = lambda it: None if it == self.calls.NO_CHOICE else self.ids[it]
         each = zip(self.ids, *state)
         return {id: (winner, choice(it)) for id, winner, it in each if winner != self.calls.NO_WINNER}
@@ -209,7 +207,6 @@ def watched(board, count, until):
 
 
 def refuse_known(known, said):
-    """Refuses what is known, for what is said of the first vertex that is named."""
     known.refuse(int(re.search(r"\d+", said)[0]), f"known: {said}", 1)
 
 
@@ -301,7 +298,6 @@ def data_of(it):
 
 
 def plain(game):
-    """The game without names."""
     return type(game)({id: (*row[:3], "") for id, row in game.rows.items()})
 
 
@@ -323,7 +319,6 @@ def program():
 
 
 def words_of(named):
-    """The words of a command, as a shell splits them."""
     try:
         words = shlex.split(named)
     except ValueError as error:

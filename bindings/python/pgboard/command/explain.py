@@ -61,7 +61,6 @@ class Claim:
 
 
 def cycle(claim, id):
-    """The lines that explain a bad cycle, and its edges."""
     walk, game = claim.closed_walk(id), claim.game
     winner, other = PLAYERS[claim.winner(id)], PLAYERS[1 - claim.winner(id)]
     lines = [

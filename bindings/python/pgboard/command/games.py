@@ -108,8 +108,7 @@ class Game:
     def put(self, id, priority, owner, successors, name=""):
         self.rows[id] = priority, owner, successors, name
         self.edges += len(successors)
-        if len(self.rows) > MOST_VERTICES or self.edges > MOST_EDGES:
-            check_size(self.path, len(self.rows), self.edges)
+        check_size(self.path, len(self.rows), self.edges)
 
     def close(self, id):
         """Gives a vertex without successors an edge to itself: no walk leaves it, so its priority decides."""
@@ -226,7 +225,6 @@ class Game:
         self.source.refuse(why, at)
 
     def called(self, id):
-        """A vertex for people, with its name."""
         name = self.rows[id][3].replace('"', '\\"')
         return printable(" ".join(f'{id} "{name}"'.split())) if name else str(id)
 
@@ -240,7 +238,6 @@ class Game:
 
 
 def game_of(path, rules):
-    """The game of a file in any form that is read."""
     return game_of_text(path, text_of(path), rules)
 
 
@@ -282,7 +279,6 @@ class Solution:
         self.rows, self.path, self.text, self.places = rows, path, text, places or {}
 
     def add(self, id, winner, choice, at):
-        """Adds a row, which stands at a place of the text."""
         self.rows[id], self.places[id] = (winner, choice), at
         if len(self.rows) > MOST_VERTICES:
             raise Refused(f"{called(self.path)}: more than {MOST_VERTICES:,} vertices")
@@ -341,5 +337,4 @@ def solution_of(path, text):
 
 
 def number_of(text, found, group):
-    """The number of a group of a match."""
     return None if found[group] is None else text.number(found[group], found.start(group))

@@ -180,7 +180,6 @@ class Automaton:
             self.controllable.append(proposition)
 
     def players(self):
-        """Players of the states in order, as Spot writes them; player 1 wins where the automaton accepts."""
         self.owners = []
         while self.tokens.next_is("a number"):
             self.owners.append(self.tokens.number(2))

@@ -5,7 +5,7 @@
 import html
 import shutil
 
-from . import FILE, Refused, called, child, printable, write
+from . import FILE, Refused, called, child, of_form, printable, write
 
 MOST_DRAWN, MOST_LETTERS = 200, 30
 KINDS = ("dot", "svg", "png", "pdf")
@@ -22,18 +22,10 @@ STYLES = {
 }
 
 
-def path(word):
-    """The path of a picture, for argparse; the ending says what kind it is."""
-    if word.rpartition(".")[2] not in KINDS:
-        raise ValueError
-    return word
-
-
-path.__name__ = "picture (.dot, .svg, .png or .pdf)"
+path = of_form(rf"(.*\.)?({'|'.join(KINDS)})", "picture (.dot, .svg, .png or .pdf)")
 
 
 def add_option(parser, what):
-    """Adds the option `--picture` to a parser of words."""
     said = f"draw {what}, in .dot, .svg, .png or .pdf"
     parser.add_argument("--picture", metavar="FILE", type=path, help=said)
 
@@ -52,7 +44,6 @@ def label(id, priority, name):
 
 
 def vertex(game, id, winner, more=""):
-    """The line of a vertex, of Even a diamond and of Odd a box, with its winner's colours."""
     _, owner, _, name = game.rows[id]
     shape = "box" if owner else "diamond"
     text = label(id, game.priority(id), name)
@@ -64,12 +55,10 @@ def edge(id, to, style=""):
 
 
 def graph(vertices, edges):
-    """The Graphviz text of such lines."""
     return "\n".join(["digraph game {", *HEAD, *vertices, *edges, "}", ""])
 
 
 def of_game(game, solution):
-    """The Graphviz text of a game; its solution may leave vertices open."""
     edges = []
     for id, (_, owner, _, _) in sorted(game.rows.items()):
         winner, choice = solution.get(id, (None, None))
@@ -109,7 +98,6 @@ def check_count(path, count):
 
 
 def made_by_dot(text, kind):
-    """The picture that Graphviz makes of its text."""
     if not shutil.which("dot"):
         raise Refused("no picture without Graphviz: the command dot is not on the PATH", FILE)
     status, made, _ = child(["dot", f"-T{kind}"], text.encode("utf-8", "surrogateescape"))

@@ -38,7 +38,6 @@ def component_sizes(edges):
 
 
 def of_game(game):
-    """What `stats` says of a game, by name."""
     edges = {id: game.successors(id) for id in game.rows}
     priorities = [it for it in map(game.priority, game.rows) if it != "none"] or ["none"]
     into = Counter(to for row in edges.values() for to in row)
@@ -72,7 +71,6 @@ def by_player(players):
 
 
 def text(numbers):
-    """A line for each number or group of numbers."""
     said = (
         lambda it: ", ".join(f"{name} {value}" for name, value in it.items()) if isinstance(it, dict) else it
     )

@@ -57,7 +57,6 @@ def bytes_of(*paths):
 
 
 def decoded(path, data):
-    """The text of a file, without a byte order mark."""
     if data.startswith((b"\xff\xfe", b"\xfe\xff")):
         raise Refused(f"{called(path)}: {UTF_16}")
     return data.decode("utf-8", "surrogateescape").lstrip("\ufeff")
@@ -72,8 +71,6 @@ def text_of(path):
 
 
 class Text:
-    """A text, and where it comes from."""
-
     def __init__(self, path, text):
         self.path, self.text = path, text
 
@@ -89,7 +86,6 @@ class Text:
         self.refuse(f"expected {wanted}, found {found}", begins)
 
     def number(self, digits, at):
-        """The number of these digits at a place."""
         if len(digits) > 9:
             # (`int` refuses thousands of zeros)
             digits = digits.lstrip("0") or "0"
@@ -196,7 +192,6 @@ class Tokens(Text):
         return bool(self.next_is(*wanted) and self.take(*wanted))
 
     def wants(self, wanted):
-        """Refuses the next token, since another one is expected."""
         self.expect(wanted, self.at(), self.left[-1].end if self.left else self.at())
 
     def chain(self, operators, part, join):

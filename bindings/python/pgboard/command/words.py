@@ -50,43 +50,31 @@ DRAW = """Draws a game as Graphviz text, or as a picture by Graphviz's `dot`, on
 Even owns the diamonds and Odd the boxes. What Even wins is light with a plain border, what Odd wins is dark
 with a double one, and what is open is white and dashed. The winner's choice is bold. At most 200 vertices
 are drawn."""
+JSON = {"json": "write JSON"}
 
 
-def add_game(word, solution=None):
-    word.add_argument(
-        "game",
-        metavar="GAME",
-        nargs="?" if solution in (None, "?") else None,
-        default="-",
-        help="a game; - is standard input",
-    )
+def add_flags(word, **said):
+    for name, it in said.items():
+        word.add_argument(f"--{name.replace('_', '-')}", action="store_true", help=it)
+
+
+def add_game(word, solution):
+    count = None if solution == "one" else "?"
+    word.add_argument("game", metavar="GAME", nargs=count, default="-", help="a game; - is standard input")
     if solution:
-        word.add_argument(
-            "solution",
-            metavar="SOLUTION",
-            nargs=None if solution != "?" else "?",
-            help="a solution, as PGSolver or Oink print it",
-        )
-    word.add_argument(
-        "--min",
-        action="store_true",
-        help="the least priority that is seen again and again decides, as a header `minparity` says",
-    )
-    word.add_argument(
-        "--odd", action="store_true", help="player 0 wins by odd priorities, and player 1 by even ones"
-    )
-    word.add_argument(
-        "--dead-ends", action="store_true", help="the owner of a vertex without successors loses there"
+        said = "a solution, as PGSolver or Oink print it"
+        word.add_argument("solution", metavar="SOLUTION", nargs=count, help=said)
+    add_flags(
+        word,
+        min="the least priority that is seen again and again decides, as a header `minparity` says",
+        odd="player 0 wins by odd priorities, and player 1 by even ones",
+        dead_ends="the owner of a vertex without successors loses there",
     )
 
 
 def add_timeout(word):
     said = "end the search after so many seconds, with status 6; to read, verify and write takes more"
     word.add_argument("--timeout", metavar="S", type=seconds, help=said)
-
-
-def add_json(word):
-    word.add_argument("--json", action="store_true", help="write JSON")
 
 
 def print_json(value):
@@ -144,7 +132,6 @@ def solve(given):
 
 
 def judged(given, data):
-    """A game, a solution, and what is said of it."""
     texts = [decoded(*it) for it in zip((given.game, given.solution), data)]
     game, solution = game_of_text(given.game, texts[0], given), solution_of(given.solution, texts[1])
     solution.check(game)
@@ -279,15 +266,14 @@ def stats(given):
 def add_solving(it):
     it.add_argument("--known", metavar="FILE", help="begin from a part of a solution")
     add_timeout(it)
-    it.add_argument("--partial", action="store_true", help="with --timeout: write what is settled by then")
     said = "over a program: so many threads, up to 64, look for what a player wins (1)"
     it.add_argument("--workers", metavar="N", type=number, default=1, help=said)
-    it.add_argument("--winners", action="store_true", help="write winners alone, without choices")
-    it.add_argument("--keep-names", action="store_true", help="write the name of a vertex after its line")
-    it.add_argument(
-        "--stats",
-        action="store_true",
-        help="also write what `stats` does, winners, time and entries, to standard error",
+    add_flags(
+        it,
+        partial="with --timeout: write what is settled by then",
+        winners="write winners alone, without choices",
+        keep_names="write the name of a vertex after its line",
+        stats="also write what `stats` does, winners, time and entries, to standard error",
     )
 
 
@@ -306,21 +292,19 @@ def parser():
     late = "6 where --timeout was not enough, "
     it = word(solve, "solve", SOLVE, f"{DONE}1 where what is known does not hold, {late}")
     add_solving(it)
-    add_json(it)
-    add_json(word(verify, "verify", VERIFY, JUDGED, "one"))
+    add_flags(it, **JSON)
+    add_flags(word(verify, "verify", VERIFY, JUDGED, "one"), **JSON)
     it = word(explains, "explain", EXPLAIN, JUDGED, "one")
     pictures.add_option(it, "what is wrong")
     it = word(winner, "winner", WINNER, f"0 where Even wins, 1 where Odd wins, {late}")
     it.add_argument("--vertex", metavar="V", type=number, help="the vertex, by its identifier")
     add_timeout(it)
-    said = "write the part that a play from there can reach, as a solution"
-    it.add_argument("--reach", action="store_true", help=said)
+    add_flags(it, reach="write the part that a play from there can reach, as a solution")
     it.add_argument("--game", dest="part", metavar="FILE", help="write that part as a game of one player")
     pictures.add_option(it, "that part")
-    add_json(it)
-    word(convert, "convert", CONVERT).add_argument(
-        "--solution", action="store_true", help="the input is a solution, as PGSolver or Oink print it"
-    )
+    add_flags(it, **JSON)
+    it = word(convert, "convert", CONVERT)
+    add_flags(it, solution="the input is a solution, as PGSolver or Oink print it")
     it = word(draw, "draw", DRAW, solution="?")
     kinds = it.add_mutually_exclusive_group()
     for kind in pictures.KINDS[1:]:
@@ -328,7 +312,7 @@ def parser():
         kinds.add_argument(f"--{kind}", dest="kind", action="store_const", const=kind, help=said)
     it.add_argument("--trace", metavar="TRACE", help="draw what an output of `pgboard trace` settles")
     it.add_argument("--entries", metavar="K", type=number, help="of its first K entries alone")
-    add_json(word(stats, "stats", STATS))
+    add_flags(word(stats, "stats", STATS), **JSON)
     return top, words.choices
 
 

@@ -5,7 +5,8 @@ use Rattle.pg_board.proofs.Common.{length-map, length-le_from_distinct_below, fa
 use Rattle.pg_board.proofs.Common.{ClaimRows, named, choice_in, AreRight, IsSound, named_right, Posted, State, settled, rest_of, IsGoodOn, Journal, state_of}
 use Rattle.pg_board.proofs.Common.{Regions, BoardRecord, Adds, IsLost, Refuses, table_state, IsBoard, Within, members, lt-ltb, ◌==◌}
 use Rattle.std.proofs.lemmas.Bool.{eqb-false}
-use Rattle.pg_board.specs.Refusal.{IsFirstEdge, IsOpenEdge}
+use Rattle.pg_game.specs.Least.{IsFirstEdge}
+use Rattle.pg_board.specs.Refusal.{IsOpenEdge}
 use Rattle.pg_dominion.proofs.RowsByPlace.{distinct_rising, in_vertices}
 use Rattle.pg_board.proofs.RestIsGood.{in_rest, kept_of_rest, rest_right, rest_twice}
 use Rattle.pg_board.specs.declared.journal.Refusal.TheVariants as refusal

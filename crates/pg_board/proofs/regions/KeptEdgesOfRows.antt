@@ -8,8 +8,8 @@ use Rattle.std.proofs.lemmas.List.{get_or_default}
 use Rattle.std.proofs.lemmas.List.Elements.{Contains-get_or}
 use Rattle.pg_game.specs.Graph.{successors_of}
 use Rattle.pg_game.specs.Kept.{kept}
-use Rattle.pg_board.specs.Refusal.{IsFirstEdge, IsOpenEdge}
-use Rattle.pg_game.specs.Least.{IsLeast}
+use Rattle.pg_board.specs.Refusal.{IsOpenEdge}
+use Rattle.pg_game.specs.Least.{IsFirstEdge, IsLeast}
 use Rattle.pg_dominion.proofs.RowsByPlace.{distinct_rising, named_at, place_at, choice_at, rises}
 
 module _ (g : Graph) (st : State) (p : Player) (rows : ClaimRows) (right : AreRight g p rows) where

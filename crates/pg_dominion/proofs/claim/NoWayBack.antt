@@ -1,8 +1,8 @@
 -- A search along a claim's rows that found no way back: there is none.
-use Rattle.pg_dominion.proofs.Common.{rules, ◌≡◌, ◌≢◌, ℕ, suc, ◌<◌, ◌≤◌, ◌↔◌, true, false, inl, inr, List, [], ◌∷◌, ◌++◌, length, get_or, refl, sym, ◌∙◌, ap}
-use Rattle.pg_dominion.proofs.Common.{subst, arith, Option, None, ◌==◌, Contains, list_any, eqb-true, cases_Bool, Contains-append_left, Player, Graph}
+use Rattle.pg_dominion.proofs.Common.{rules, ◌≡◌, ◌≢◌, ℕ, ◌<◌, ◌≤◌, ◌↔◌, true, false, inl, inr, List, [], ◌∷◌, ◌++◌, length, refl, sym, ◌∙◌, ap}
+use Rattle.pg_dominion.proofs.Common.{subst, arith, Option, ◌==◌, Contains, list_any, eqb-true, cases_Bool, Contains-append_left, Player, Graph}
 use Rattle.pg_dominion.proofs.Common.{priority_of, In, KeptEdge, kept, Walk, greatest_priority, OnBadWalk, NoneHas, IsLeast, is_same, ClaimRows, named}
-use Rattle.pg_dominion.proofs.Common.{choice_in, is_bad, IsRightRow, AllByRecursion, LeadsToListed, AreNamed, or_parts, Bool, same_player, owner_of}
+use Rattle.pg_dominion.proofs.Common.{choice_in, is_bad, IsRightRow, AllByRecursion, LeadsToListed, AreNamed, or_parts}
 use Rattle.pg_dominion.proofs.Common.{ends_at}
 use Rattle.std.specs.Prelude.{MatchOption, slice_index}
 use Rattle.std.proofs.lemmas.List.{append_assoc}

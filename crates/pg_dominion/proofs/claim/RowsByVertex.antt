@@ -1,6 +1,6 @@
 -- A claim's strategy graph, one row after another.
-use Rattle.pg_dominion.proofs.Common.{◌≡◌, ℕ, ◌+◌, ◌<◌, Bool, true, false, [], ◌∷◌, ◌++◌, length, take, drop, get_or, refl, sym, ◌∙◌, ap, subst, ltb-true}
-use Rattle.pg_dominion.proofs.Common.{Option, Some, None, IfSome, take_more, take-append-drop, Player, same_player, Graph, IsGame, HasEdge}
+use Rattle.pg_dominion.proofs.Common.{◌≡◌, ℕ, ◌+◌, ◌<◌, Bool, true, false, length, take, refl, subst, ltb-true}
+use Rattle.pg_dominion.proofs.Common.{Option, Some, None, IfSome, Player, same_player, Graph, IsGame, HasEdge}
 use Rattle.pg_dominion.proofs.Common.{owner_of, edge_inside, same_is, ClaimRows, named, choice_in, AreRight, IsRightRow, StrategyGraph, IsStrategy, is_bad}
 use Rattle.pg_dominion.specs.KeptEdges.{IsKeptWith}
 use Rattle.pg_dominion.specs.Claim.{vertices, row_at}

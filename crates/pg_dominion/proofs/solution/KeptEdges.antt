@@ -1,9 +1,9 @@
 -- A solution's strategy graph: its leaving edges and its closed walks.
 use Rattle.pg_dominion.proofs.Common.{◌≡◌, ℕ, ◌+◌, ◌<◌, ◌≤◌, Bool, true, false, ◌↔◌, inl, inr, List, [], ◌∷◌, length, refl, sym, ◌∙◌, ap, subst}
-use Rattle.pg_dominion.proofs.Common.{arith, ltb-true, lt-ltb, rules, Option, Some, None, IfSome, if◌then◌else◌, Contains, IsStrictlyIncreasing}
+use Rattle.pg_dominion.proofs.Common.{arith, ltb-true, lt-ltb, rules, Option, Some, None, IfSome, Contains, IsStrictlyIncreasing}
 use Rattle.pg_dominion.proofs.Common.{cases_Bool, Player, same_player, Graph, IsGame, HasEdge, owner_of}
 use Rattle.pg_dominion.proofs.Common.{successors_of, In, members, kept, NoneHas, edge_inside, same_is, is_same}
-use Rattle.pg_dominion.proofs.Common.{winner_of, LacksChoice, HasBadChoice, Leaves, StrategyGraph, Edge, IsOnBadCycle, kept_row, ends_at, is_bad, IsStrategy}
+use Rattle.pg_dominion.proofs.Common.{winner_of, LacksChoice, HasBadChoice, Leaves, StrategyGraph, Edge, IsOnBadCycle, kept_row, is_bad, IsStrategy}
 use Rattle.pg_dominion.proofs.Common.{LeavesTo, sorted_from_strictly_increasing, below_from_sorted}
 use Rattle.std.specs.Prelude.{slice_index, nat_lt}
 use Rattle.std.proofs.lemmas.Bool.{cases_order}

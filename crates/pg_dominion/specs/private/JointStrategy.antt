@@ -3,8 +3,7 @@ use Rattle.std.specs.Prelude.{ℕ, ◌≢◌}
 use Rattle.pg_game.specs.VertexSet.{all_vertices}
 use Rattle.pg_text.specs.Solution.{SolutionRows, winner_of, choice_of}
 use Rattle.pg_dominion.specs.declared.strategy_graph.StrategyGraph.{StrategyGraph}
-use Rattle.pg_dominion.specs.KeptEdges.{Edge}
-use Rattle.pg_dominion.specs.Strategies.{IsStrategy}
+use Rattle.pg_dominion.specs.KeptEdges.{Edge, IsStrategy}
 
 -- the kept edges are those of each vertex's winner
 abbrev pub IsJointStrategy : StrategyGraph → SolutionRows → Type 0

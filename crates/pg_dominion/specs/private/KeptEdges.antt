@@ -1,13 +1,21 @@
 -- The kept edges of a game, in the tables of the checks, and searches along them (private).
-use Rattle.std.specs.Prelude.{ℕ, ◌≡◌, ◌≢◌, ◌≤◌, ◌<◌, ◌+◌, ◌-◌, ◌^◌, ◌⊎◌, List, length, slice_index}
+use Rattle.std.specs.Prelude.{ℕ, ◌≡◌, ◌≢◌, ◌≤◌, ◌<◌, ◌+◌, ◌-◌, ◌^◌, ◌⊎◌, List, length, slice_index, MatchOption}
 use Rattle.pg_game.specs.Graph.{priority_of}
+use Rattle.pg_game.specs.Least.{NoneHas, IsLeast}
 use Rattle.pg_game.specs.Walk.{Walk}
 use Rattle.pg_dominion.specs.declared.strategy_graph.StrategyGraph.{StrategyGraph}
-use Rattle.pg_dominion.specs.KeptEdges.{Edge}
+use Rattle.pg_dominion.specs.declared.cycles.SearchProgress.{SearchProgress}
+use Rattle.pg_dominion.specs.declared.cycles.SearchProgress.TheVariants as searched
+use Rattle.pg_dominion.specs.KeptEdges.{Edge, IsOnBadCycle}
 
 -- a number of steps after which a search ends without a result; the greatest number is no limit
 abbrev pub IsBounded : ℕ → Type 0
 IsBounded most = most < 2 ^ 64 - 1
+
+-- the least bad vertex that is the greatest on a closed walk; or there is none; or none before a vertex where the patience ends
+abbrev pub IsSearched : StrategyGraph → ℕ → SearchProgress → Type 0
+IsSearched k patience (searched.All least) = MatchOption least (NoneHas (IsOnBadCycle k)) (IsLeast (IsOnBadCycle k))
+IsSearched k patience (searched.Before v) = IsBounded patience × ((u : ℕ) → u < v → IsOnBadCycle k u → ⊥)
 
 -- an edge to a vertex of at most this priority
 abbrev pub EdgeUnder : StrategyGraph → ℕ → ℕ → ℕ → Type 0

@@ -8,7 +8,7 @@ use Rattle.std.proofs.Common.{◌↔◌}
 use Rattle.std.specs.List.{list_any}
 use Rattle.std.proofs.lemmas.Bool.{not_from_false}
 use Rattle.pg_finders.specs.Part.{IsPart}
-use Rattle.pg_finders.specs.private.loops.Singles.{leads_away, leads_to_itself}
+use Rattle.pg_finders.specs.private.Singles.{leads_away, leads_to_itself}
 use Rattle.pg_finders.proofs.Sets.{not_both, minus}
 use Rattle.pg_finders.proofs.ClosedWalks.{Among, closed_inside, greatest_reached}
 use Rattle.pg_finders.proofs.SolvedSubgames.{kept_leads, choice_leads}

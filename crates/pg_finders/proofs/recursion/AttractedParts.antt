@@ -6,7 +6,7 @@ use Rattle.pg_finders.proofs.Common.{◌==◌, eq-eqb, or_cases, or_left, or_rig
 use Rattle.pg_finders.proofs.Common.{false_from_ne_true, cases_Bool, own_or_other, Player, Even, Odd, opponent, Graph, HasEdge}
 use Rattle.pg_finders.proofs.Common.{owner_of, VertexSet, In, members}
 use Rattle.pg_finders.proofs.Common.{union, without, listed, Apart, settled_of, active_of, HasTaken, IsTested, AttractsNoActive}
-use Rattle.pg_finders.proofs.Common.{Option, Some, None, IsAttractedRow}
+use Rattle.pg_finders.proofs.Common.{Option, Some, None, IsAttractedRow, both_ways}
 use Rattle.std.proofs.lemmas.Bool.{and_right, not_from_true}
 use Rattle.std.proofs.lemmas.List.{append_cancel_left}
 use Rattle.pg_game.proofs.Players.{not_own}
@@ -16,9 +16,9 @@ use Rattle.pg_finders.specs.declared.recursion.settled.Settled.{Settled}
 use Rattle.pg_finders.specs.private.recursion.Settled.{IsPlaced}
 use Rattle.pg_finders.specs.private.recursion.Parts.{rest_of, free_of, AreParts, FitParts, AreFewerParts, Puts, KeepsBehind, KeepsFree}
 use Rattle.pg_finders.specs.private.recursion.Parts.{LosesFree, AttractsFree}
-use Rattle.pg_finders.specs.private.recursion.Places.{stands}
+use Rattle.pg_finders.specs.private.recursion.Places.{is_listed_from}
 use Rattle.pg_finders.specs.private.recursion.KeptParts.{fewer_then}
-use Rattle.pg_finders.proofs.Sets.{twice, no_both, only, minus, equal_from}
+use Rattle.pg_finders.proofs.Sets.{twice, no_both, only, minus}
 use Rattle.pg_finders.proofs.recursion.ListsAsSets.{in_prefix, prefix_or_rest, in_take, in_drop, take_or_drop, one_listed}
 use Rattle.pg_finders.proofs.recursion.ListsAsSets.{take_apart, apart_other}
 use Rattle.pg_finders.proofs.recursion.ListsAsSets.{all_below}
@@ -131,7 +131,7 @@ fit_push {n} {x} {y} {list} v h f b i now = record {
   ]);
 }
 
--- a free vertex leads to what stands first: the player's by a successor there, and the opponent's since none is free
+-- a free vertex leads to what is listed first: the player's by a successor there, and the opponent's since none is free
 module _ (g : Graph) (p : Player) {n : ℕ} {x : Parts} (first : List ℕ) {list : List ℕ} (fit : FitParts n x list)
     (apart : (v : ℕ) → In (listed first) v → free_of x v ≡ false) (v : ℕ) (i : In (free_of x) v) where
   fresh : listed (first ++ list) v ≡ false
@@ -188,10 +188,10 @@ module _ {x y : Parts} (m : MovesCursors x y) where
       ∙ (ap (λ p. drop x.from (settled_of y.settled p)) m.player ∙ ap (λ xs. drop x.from xs) (lists_moved x.player))
 
   pub free_moved : (v : ℕ) → free_of y v ≡ free_of x v
-  free_moved v = ap (λ b. b || stands y.settled.places.items (settled_of y.settled y.player) y.from v) (ap (λ mask. members mask v) m.active)
-      ∙ ap (λ b. active_of x.subgame v || b) (ap (λ k. stands y.settled.places.items (settled_of y.settled y.player) k v) m.from
-      ∙ (ap (λ p. stands y.settled.places.items (settled_of y.settled p) x.from v) m.player
-      ∙ ap (λ s. stands s.places.items (settled_of s x.player) x.from v) m.settled))
+  free_moved v = ap (λ b. b || is_listed_from y.settled.places.items (settled_of y.settled y.player) y.from v) (ap (λ mask. members mask v) m.active)
+      ∙ ap (λ b. active_of x.subgame v || b) (ap (λ k. is_listed_from y.settled.places.items (settled_of y.settled y.player) k v) m.from
+      ∙ (ap (λ p. is_listed_from y.settled.places.items (settled_of y.settled p) x.from v) m.player
+      ∙ ap (λ s. is_listed_from s.places.items (settled_of s x.player) x.from v) m.settled))
 
   pub fewer_moved : AreFewerParts x y
   fewer_moved = record {
@@ -228,7 +228,7 @@ fit_below {n} {x} {list} f v u = elim (or_cases (free_of x v) (listed list v) u)
   | inr k ↦ all_listed (λ w. w < n) list f.below v k
 ]
 
--- of the free vertices only the given ones may lead to what stands first, and these are tested: from x to y
+-- of the free vertices only the given ones may lead to what is listed first, and these are tested: from x to y
 pub record TestsThese (g : Graph) (p : Player) (first vertices : List ℕ) (x : Parts) (none : List ℕ) (y : Parts) (mid : List ℕ) : Type 0 where
   pub empty : none ≡ []
   pub apart : (v : ℕ) → In (listed first) v → free_of x v ≡ false
@@ -322,7 +322,7 @@ module _ {g : Graph} {p : Player} {first vertices : List ℕ} {x y z : Parts} {n
   out_of_list v i = not_listed h.fit v i
 
   pub active_now : (v : ℕ) → active_of z.subgame v ≡ without (active_of x.subgame) (listed list) v
-  active_now v = equal_from (active_of z.subgame v) (without (active_of x.subgame) (listed list) v)
+  active_now v = both_ways (active_of z.subgame v) (without (active_of x.subgame) (listed list) v)
       (λ i. minus (fewer.active v i) (out_of_list v (free_is h.fit.parts v ∙ or_left (active_of z.subgame v) (listed (rest_of z) v) i)))
       (λ i. (let a = only (active_of x.subgame v) (listed list v) i in
       elim (free_kept v (free_is h.parts v ∙ or_left (active_of x.subgame v) (listed (rest_of x) v) a.0) a.1) [
@@ -331,7 +331,7 @@ module _ {g : Graph} {p : Player} {first vertices : List ℕ} {x y z : Parts} {n
       ]))
 
   pub rest_now : (v : ℕ) → listed (rest_of z) v ≡ without (listed (rest_of x)) (listed list) v
-  rest_now v = equal_from (listed (rest_of z) v) (without (listed (rest_of x)) (listed list) v)
+  rest_now v = both_ways (listed (rest_of z) v) (without (listed (rest_of x)) (listed list) v)
       (λ i. minus (fewer.rest v i) (out_of_list v (free_is h.fit.parts v ∙ or_right (active_of z.subgame v) (listed (rest_of z) v) i)))
       (λ i. (let a = only (listed (rest_of x) v) (listed list v) i in
       elim (free_kept v (free_is h.parts v ∙ or_right (active_of x.subgame v) (listed (rest_of x) v) a.0) a.1) [

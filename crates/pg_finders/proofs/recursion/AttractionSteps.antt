@@ -3,12 +3,12 @@ use Rattle.pg_finders.proofs.Common.{◌≡◌, ◌≢◌, ℕ, suc, ◌<◌, tr
 use Rattle.pg_finders.proofs.Common.{arith, append_assoc, rules, Some, ◌==◌, and-true, eq-eqb, or_cases, cases_Bool, or_left, or_right, or_parts}
 use Rattle.pg_finders.proofs.Common.{false_from_ne_true, append-nil, take-append-le, take_all, Player, opponent, Graph, HasEdge, owner_of, VertexSet, In, union}
 use Rattle.pg_finders.proofs.Common.{without, other_from_not, IsAttractedRow, Plan, listed, Once, winners_of, choices_of, SameAt, IsAttracted, place, Before}
-use Rattle.pg_finders.proofs.Common.{HasTaken, AttractsNoActive}
+use Rattle.pg_finders.proofs.Common.{HasTaken, AttractsNoActive, both_ways}
 use Rattle.std.proofs.Math.Bool.{or-false}
 use Rattle.std.proofs.lemmas.Bool.{and_left, and_right, not_from_true}
 use Rattle.pg_game.proofs.Players.{not_own}
 use Rattle.pg_dominion.specs.AttractorState.{AttractsNoFurther}
-use Rattle.pg_finders.proofs.Sets.{only, minus, minus_both, no_both, equal_from}
+use Rattle.pg_finders.proofs.Sets.{only, minus, minus_both, no_both}
 use Rattle.pg_finders.proofs.recursion.ListsAsSets.{listed-append, once_join, apart_from, in_prefix, in_rest, prefix_or_rest, one_listed}
 
 place_prefix : (xs ys : List ℕ) (v : ℕ) → In (listed xs) v → place (xs ++ ys) v ≡ place xs v
@@ -95,7 +95,7 @@ module _ {g : Graph} {p : Player} {A A' : VertexSet} {old new : Plan} {prefix li
 
   -- what is active or listed stays the same
   pub grown_union : (v : ℕ) → union A' (listed list) v ≡ union A (listed prefix) v
-  grown_union v = search (rules, equal_from, or_cases, or_left, grown_active, grown_inside, cases_Bool, or_right, grown_left)
+  grown_union v = search (rules, both_ways, or_cases, or_left, grown_active, grown_inside, cases_Bool, or_right, grown_left)
 
   -- the list begins with the prefix
   pub prefix_taken : take (length prefix) list ≡ prefix

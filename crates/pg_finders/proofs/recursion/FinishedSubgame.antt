@@ -1,6 +1,6 @@
 -- What the loop owes where it finishes the last subgame that waits: all is settled as the player's.
 use Rattle.pg_finders.proofs.Common.{◌≡◌, ℕ, ◌<◌, Bool, ◌&&◌, ◌||◌, not, ◌⊎◌, inl, inr, List, [], ◌∷◌, ◌++◌, length, take, drop}
-use Rattle.pg_finders.proofs.Common.{refl, sym, ◌∙◌, ap, arith, append_assoc, rules, take-append-drop, or_parts, false_from_ne_true, Player}
+use Rattle.pg_finders.proofs.Common.{refl, sym, ◌∙◌, ap, arith, append_assoc, rules, or_parts, false_from_ne_true, Player}
 use Rattle.pg_finders.proofs.Common.{opponent, Graph, VertexSet, In, members, own_or_other, Plan, Frame, Once, listed, SettledLists, settled_of}
 use Rattle.pg_finders.proofs.Common.{winners_of, choices_of, how_many, IsBegun, IsSolvedInside, active_of, count_at, prefix, level_at, AreOpenLevels, IsAtEnd, IsSolverState}
 use Rattle.pg_finders.proofs.Common.{how_many_gone, work}
@@ -13,6 +13,7 @@ use Rattle.pg_finders.proofs.SolvedSubgames.{IsSolvedTo-subst, all_won}
 use Rattle.pg_finders.proofs.recursion.LoopSteps.{Finishes, lists_fit, last_begun, since_inside, since_left, aside_inside, inside_cases, left_cases}
 use Rattle.pg_finders.proofs.recursion.LoopSteps.{left_solved, finish_more, open_levels_finish}
 use Rattle.pg_finders.proofs.recursion.StepBounds.{work_finish}
+use Rattle.pg_finders.proofs.recursion.SharedLists.{cut}
 
 -- each list gets what was set aside, and nothing else but the number of those that wait has changed
 pub record SettlesAside (g : Graph) (x z : Solver) (f : Frame) : Type 0 where
@@ -101,9 +102,6 @@ module _ {g : Graph} {inside : List Bool} {x z : Solver} {f : Frame} (h : IsAtEn
         | inr y ↦ (s.0, y)
       ]
 
-  cut : (r : Player) → settled r ≡ prefix f settled r ++ since r
-  cut r = sym (take-append-drop (count_at f r) (settled r))
-
   once_since : (r : Player) → Once (since r)
   once_since r = once_drop (count_at f r) (settled r) (run.apart.settled_once r)
 
@@ -122,8 +120,8 @@ module _ {g : Graph} {inside : List Bool} {x z : Solver} {f : Frame} (h : IsAtEn
 
   settles : Finishes g p I X (prefix f settled) (settled_of z.parts.settled) (since p ++ B) (since q) (winners_of old) (winners_of old) (choices_of old) (choices_of old)
   settles = record {
-    own_is = c.own ∙ (ap (λ ys. ys ++ B) (cut p) ∙ append_assoc (prefix f settled p) (since p) B);
-    other_is = c.other ∙ cut q;
+    own_is = c.own ∙ (ap (λ ys. ys ++ B) (cut f settled p) ∙ append_assoc (prefix f settled p) (since p) B);
+    other_is = c.other ∙ cut f settled q;
     own_within = own_cases (In I) (inside_of p) aside_of;
     other_within = inside_of q;
     own_once = once_join (since p) B (once_since p) (once_drop f.set_aside set_aside run.apart.aside_once) (apart_from (since p) B (not_aside p));

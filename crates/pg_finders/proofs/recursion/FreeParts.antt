@@ -12,12 +12,12 @@ use Rattle.pg_finders.proofs.Sets.{no_both, only}
 use Rattle.pg_finders.proofs.recursion.ListsAsSets.{in_rest, prefix_or_rest, in_drop}
 use Rattle.pg_finders.proofs.recursion.RepeatedAttraction.{all_listed}
 use Rattle.pg_finders.proofs.recursion.AttractionSteps.{grown_one, grown_then}
-use Rattle.pg_finders.proofs.recursion.PlacedLists.{stands_is}
+use Rattle.pg_finders.proofs.recursion.PlacedLists.{listed_from_is}
 
 -- what is free, where the lists are placed
 pub free_is : {n : ℕ} {x : Parts} → AreParts n x → (v : ℕ) → free_of x v ≡ union (active_of x.subgame) (listed (rest_of x)) v
 free_is {n} {x} a v = ap (λ b. active_of x.subgame v || b)
-    (stands_is x.settled.places.items (settled_of x.settled x.player) (a.placed.table x.player) x.from v)
+    (listed_from_is x.settled.places.items (settled_of x.settled x.player) (a.placed.table x.player) x.from v)
 
 -- a free vertex that is not active is settled
 pub settled_free : {n : ℕ} {x : Parts} → AreParts n x → (v : ℕ) → In (free_of x) v → active_of x.subgame v ≡ false → In (listed (rest_of x)) v

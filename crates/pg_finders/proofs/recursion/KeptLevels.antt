@@ -1,11 +1,11 @@
 -- More of the active part is settled for a player, while the same subgames wait; and a subgame that waits again, without what its opponent
 -- took: it is finished, begun again, and what its player still wins of its rest is settled.
-use Rattle.pg_finders.proofs.Common.{◌≡◌, ℕ, ◌+◌, ◌-◌, ◌<◌, ◌≤◌, Bool, true, false, ◌&&◌, ◌||◌, not, ◌⊎◌, inl, inr, List, [], ◌∷◌, ◌++◌, length, take, refl, sym}
+use Rattle.pg_finders.proofs.Common.{◌≡◌, ℕ, ◌+◌, ◌-◌, ◌<◌, ◌≤◌, false, ◌&&◌, ◌||◌, not, ◌⊎◌, inl, inr, List, [], ◌∷◌, ◌++◌, length, take, refl, sym}
 use Rattle.pg_finders.proofs.Common.{◌∙◌, ap, subst, arith, length-append, append-nil, take-append-le, false_from_ne_true, Player, Even, Odd, opponent}
 use Rattle.pg_finders.proofs.Common.{Graph, VertexSet, In, without, Choices, Frame, Winners, IsSolvedTo, AreLevels, listed, Once, SettledLists, gone, part}
 use Rattle.pg_finders.proofs.Common.{level_at, AreApart, AreOpenLevels, map, steps, steps_left}
 use Rattle.std.proofs.Math.Bool.{or-false}
-use Rattle.pg_finders.proofs.Sets.{no_both}
+use Rattle.pg_finders.proofs.Sets.{minus_more, no_both}
 use Rattle.pg_finders.proofs.recursion.ListsAsSets.{listed-append, prefix_or_rest, once_join, apart_from}
 use Rattle.pg_finders.proofs.recursion.WaitingLevels.{Agree, waits_on, steps_grow}
 use Rattle.pg_finders.proofs.recursion.SharedLists.{pick, picked, pick_apart, pick_either, gone_settled, gone_aside, gone_cases, part_of, linked_more, levels_same}
@@ -43,23 +43,11 @@ module _ {g : Graph} {U A A' : VertexSet} {settled settled' : SettledLists} {set
   parts : (q : Player) (v : ℕ) → In (listed (settled' q)) v → In (listed (settled q)) v ⊎ In (listed (taken q)) v
   parts q v i = prefix_or_rest (settled q) (taken q) v (subst (λ xs. In (listed xs) v) (is q) i)
 
-  less : (u a b c d e : Bool) → ((u && not ((a || b) || c)) && not (d || e)) ≡ (u && not (((a || d) || (b || e)) || c))
-  less false a b c d e = refl
-  less true true b c d e = refl
-  less true false true c true e = refl
-  less true false true c false e = refl
-  less true false false true true e = refl
-  less true false false true false true = refl
-  less true false false true false false = refl
-  less true false false false true e = refl
-  less true false false false false true = refl
-  less true false false false false false = refl
-
   active_now : (v : ℕ) → A' v ≡ part U settled' set_aside v
   active_now v =
       t.active_is v ∙ (ap (λ b. A v && not b) (sym (or-false (listed own v)) ∙ sym (pick_either p own [] v))
       ∙ (ap (λ b. b && not (listed (taken Even) v || listed (taken Odd) v)) (h.active_is v)
-      ∙ (less (U v) (listed (settled Even) v) (listed (settled Odd) v) (listed set_aside v) (listed (taken Even) v) (listed (taken Odd) v)
+      ∙ (minus_more (U v) (listed (settled Even) v) (listed (settled Odd) v) (listed set_aside v) (listed (taken Even) v) (listed (taken Odd) v)
       ∙ (ap (λ b. U v && not ((b || (listed (settled Odd) v || listed (taken Odd) v)) || listed set_aside v))
       (sym (listed-append (settled Even) (taken Even) v) ∙ ap (λ xs. listed xs v) (sym (is Even)))
       ∙ ap (λ b. U v && not ((listed (settled' Even) v || b) || listed set_aside v))

@@ -1,18 +1,18 @@
 -- The steps of the loop over shared lists: a subgame is begun, or the last one that waits is finished.
-use Rattle.pg_finders.proofs.Common.{◌≡◌, ◌≢◌, ℕ, ◌+◌, ◌-◌, ◌<◌, ◌≤◌, Bool, true, false, ◌&&◌, ◌||◌, not, ◌⊎◌, inl, inr, List, [], ◌∷◌, ◌++◌, length, take, drop, map}
+use Rattle.pg_finders.proofs.Common.{◌≡◌, ◌≢◌, ℕ, ◌+◌, ◌-◌, ◌<◌, ◌≤◌, Bool, false, ◌&&◌, ◌||◌, not, ◌⊎◌, inl, inr, List, [], ◌∷◌, ◌++◌, length, take, drop, map}
 use Rattle.pg_finders.proofs.Common.{refl, sym, ◌∙◌, ap, subst, arith, length-append, rules, fun_ext, ◌==◌, eqb-true, or_cases, and_parts, and_from}
 use Rattle.pg_finders.proofs.Common.{false_from_ne_true, cases_lt, and-true, map-append, take-append-le, take_all, common_steps, Player, Even, Odd, opponent, Graph}
 use Rattle.pg_finders.proofs.Common.{VertexSet, In, members, no_vertices, Choices, same_is, is_same, Frame, Winners, IsSolvedInside, IsSolvedTo, IsBegun}
 use Rattle.pg_finders.proofs.Common.{won_inside, Level, AreLevels, listed, Once, Apart, SettledLists, how_many, gone, part, count_at, prefix, level_at, Linked}
 use Rattle.pg_finders.proofs.Common.{AreApart, AreOpenLevels, IsAtEnd, how_many_gone, active_of, settled_of, winners_of, choices_of}
 use Rattle.pg_finders.specs.declared.recursion.Solver.{Solver}
-use Rattle.pg_finders.proofs.Common.{vec_len}
+use Rattle.pg_finders.proofs.Common.{vec_len, both_ways}
 use Rattle.std.proofs.Common.{Global, Vec}
 use Rattle.std.proofs.Common.{length-take}
 use Rattle.std.proofs.lemmas.List.{length_push}
 use Rattle.std.proofs.Math.Bool.{or_assoc}
 use Rattle.std.proofs.Math.Seq.{take-append_seam, take-append-add, drop-append_seam}
-use Rattle.pg_finders.proofs.Sets.{minus, minus_both, no_both, equal_from, unless}
+use Rattle.pg_finders.proofs.Sets.{minus, minus_both, minus_more, no_both, unless}
 use Rattle.pg_finders.proofs.recursion.ListsAsSets.{listed-append, prefix_or_rest, in_take, in_drop, take_or_drop, once_join, once_take, take_apart, apart_from}
 use Rattle.pg_finders.proofs.recursion.ListsAsSets.{once_fits, missing}
 use Rattle.pg_finders.proofs.SolvedSubgames.{solved_none, solved_whole, IsSolvedTo-subst}
@@ -245,7 +245,7 @@ module _ {g : Graph} {U active : VertexSet} {settled : SettledLists} {set_aside 
 
     -- what a player won of what is left
     pub won_since : (p : Player) (v : ℕ) → won_inside last.left won p v ≡ listed (since p) v
-    won_since p v = search (rules, equal_from, and_from, since_left, is_same, h.his, in_drop, and_parts, left_cases, same_is)
+    won_since p v = search (rules, both_ways, and_from, since_left, is_same, h.his, in_drop, and_parts, left_cases, same_is)
 
   -- It is finished: each list goes back to where it was, and then gets what is taken of the subgame.
   module _ {active' : VertexSet} {settled' : SettledLists} {own other : List ℕ} {won' : Winners} {s' : Choices}
@@ -277,23 +277,11 @@ module _ {g : Graph} {U active : VertexSet} {settled : SettledLists} {set_aside 
     active_finished : (v : ℕ) → active' v ≡ part U settled' A v
     active_finished v =
         t.left v ∙ (ap (λ b. last.inside v && not b) (sym (pick_either f.player own other v))
-        ∙ (less (U v) (listed (prefix f settled Even) v) (listed (prefix f settled Odd) v) (listed A v) (listed (taken Even) v) (listed (taken Odd) v)
+        ∙ (minus_more (U v) (listed (prefix f settled Even) v) (listed (prefix f settled Odd) v) (listed A v) (listed (taken Even) v) (listed (taken Odd) v)
         ∙ (ap (λ b. U v && not ((b || (listed (prefix f settled Odd) v || listed (taken Odd) v)) || listed A v))
         (sym (listed-append (prefix f settled Even) (taken Even) v) ∙ ap (λ xs. listed xs v) (sym (is Even)))
         ∙ ap (λ b. U v && not ((listed (settled' Even) v || b) || listed A v))
         (sym (listed-append (prefix f settled Odd) (taken Odd) v) ∙ ap (λ xs. listed xs v) (sym (is Odd))))))
-      where
-        less : (u a b c d e : Bool) → ((u && not ((a || b) || c)) && not (d || e)) ≡ (u && not (((a || d) || (b || e)) || c))
-        less false a b c d e = refl
-        less true true b c d e = refl
-        less true false true c true e = refl
-        less true false true c false e = refl
-        less true false false true true e = refl
-        less true false false true false true = refl
-        less true false false true false false = refl
-        less true false false false true e = refl
-        less true false false false false true = refl
-        less true false false false false false = refl
 
     counts : (p : Player) → length (prefix f settled p) ≡ count_at f p
     counts p = (let a = links.2 p in omega (arith, length-take (count_at f p) (settled p), a))

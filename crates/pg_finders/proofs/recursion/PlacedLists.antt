@@ -2,15 +2,15 @@
 use Rattle.pg_finders.proofs.Common.{◌≡◌, ◌≢◌, ℕ, suc, ◌+◌, ◌-◌, ◌<◌, ◌≤◌, true, false, ◌&&◌, ◌||◌, not, ◌⊎◌, inl, inr, List, [], ◌∷◌, ◌++◌}
 use Rattle.pg_finders.proofs.Common.{length, take, drop, refl, sym, ◌∙◌, ap, subst, arith, below_more, or_parts, ◌==◌, eqb-true, eq-eqb, or_cases, cases_Bool, false_from_ne_true}
 use Rattle.pg_finders.proofs.Common.{slice_index_or, slice_set, get_or-set_same, get_or-set_other, get_or-take, get_or_default, length-set, common_steps, In, listed, Once, Apart, All, Player, Even, Odd, opponent, cases_lt}
-use Rattle.pg_finders.proofs.Common.{replicate, length-replicate, length-append, count_by-le-length}
+use Rattle.pg_finders.proofs.Common.{replicate, length-replicate, length-append, count_by-le-length, both_ways}
 use Rattle.std.proofs.Common.{nat_lt}
 use Rattle.std.proofs.lemmas.Bool.{lt-ltb, le-ltb}
 use Rattle.std.proofs.lemmas.List.{get_or-drop, get_or-replicate, length-drop, length-take-le, take-set-le, take_more}
 use Rattle.std.specs.List.{swap_remove}
 use Rattle.std.specs.Prelude.{◌^◌}
-use Rattle.pg_finders.specs.private.recursion.Places.{HasPlaces, ArePlaced, stands}
+use Rattle.pg_finders.specs.private.recursion.Places.{HasPlaces, ArePlaced, is_listed_from}
 use Rattle.pg_finders.specs.private.recursion.Settled.{IsWithout}
-use Rattle.pg_finders.proofs.Sets.{no_both, equal_from, minus, only}
+use Rattle.pg_finders.proofs.Sets.{no_both, minus, only}
 use Rattle.pg_finders.proofs.recursion.ListsAsSets.{listed_get, listed-append, prefix_or_rest, once_join, once_fits, apart_from, apart_other, all_below}
 use Rattle.pg_finders.proofs.recursion.RepeatedAttraction.{all_listed}
 use Rattle.pg_finders.proofs.recursion.PriorityOrder.{distinct_once}
@@ -105,7 +105,7 @@ module _ (places xs : List ℕ) (h : HasPlaces places xs) (from v d : ℕ) (i : 
       (λ e. no_both (subst (In (listed xs)) (sym (e ∙ moved_is)) (listed_get xs end 0 (omega (arith, there.1)))) (apart (slice_index_or ys k 0) (listed_get ys k 0 m)))
       ∙ f k m
 
-  -- what stands before the place is as it was
+  -- what is before the place is as it was
   pub removed_take : take from rest ≡ take from xs
   removed_take = take_shorter from end (slice_set xs at moved) (omega (arith, there.0, there.1)) ∙ take-set-le from xs at moved there.0
     where
@@ -117,7 +117,7 @@ module _ (places xs : List ℕ) (h : HasPlaces places xs) (from v d : ℕ) (i : 
 
   -- from the place on only the number is gone
   pub removed_from : (w : ℕ) → listed (drop from rest) w ≡ (listed (drop from xs) w && not (v == w))
-  removed_from w = equal_from (listed (drop from rest) w) (listed (drop from xs) w && not (v == w)) forth back
+  removed_from w = both_ways (listed (drop from rest) w) (listed (drop from xs) w && not (v == w)) forth back
     where
       forth : In (listed (drop from rest)) w → (listed (drop from xs) w && not (v == w)) ≡ true
       forth j =
@@ -151,7 +151,7 @@ module _ (places xs : List ℕ) (h : HasPlaces places xs) (from v d : ℕ) (i : 
 -- whether a number is listed from a place on, by its place
 pub has_place : (places xs : List ℕ) → HasPlaces places xs → (from v at : ℕ) → at ≡ slice_index_or places v 0 → from ≤ at → at < length xs
     → (slice_index_or xs at 0 == v) ≡ listed (drop from xs) v
-has_place places xs h from v at e l m = equal_from (slice_index_or xs at 0 == v) (listed (drop from xs) v)
+has_place places xs h from v at e l m = both_ways (slice_index_or xs at 0 == v) (listed (drop from xs) v)
     (λ i. at_from from xs v at l m (eqb-true (slice_index_or xs at 0) v i))
     (λ i. eq-eqb (slice_index_or xs at 0) v (ap (λ k. slice_index_or xs k 0) e ∙ (place_from places xs h from v i).2))
 
@@ -159,12 +159,6 @@ pub has_no_place : (places xs : List ℕ) → HasPlaces places xs → (from v at
     → listed (drop from xs) v ≡ false
 has_no_place places xs h from v at e none = false_from_ne_true (listed (drop from xs) v) (λ i.
     (let a = place_from places xs h from v i in none (omega (arith, e, a.0)) (omega (arith, e, a.1))))
-
--- Numbers are appended, and their places written.
-module _ (places places' xs vs : List ℕ) (here : (k : ℕ) → k < length vs → slice_index_or places' (slice_index_or vs k 0) 0 ≡ length xs + k)
-    (elsewhere : (v : ℕ) → listed vs v ≡ false → slice_index_or places' v 0 ≡ slice_index_or places v 0) where
-  pub added_other : (ys : List ℕ) → HasPlaces places ys → Apart ys vs → HasPlaces places' ys
-  added_other ys h apart k l = elsewhere (slice_index_or ys k 0) (apart (slice_index_or ys k 0) (listed_get ys k 0 l)) ∙ h k l
 
 -- one more place is written, of a number that differs from those before
 pub written_before : (places vs : List ℕ) (i at from : ℕ) → Once vs → i < length vs → slice_index_or vs i 0 < length places → at ≡ from + i
@@ -281,15 +275,15 @@ placed_remove {n} {places} {places'} {lists} {lists'} Odd v h i own other len ta
 
 -- ---- the test
 
-pub stands_here : (places xs : List ℕ) (from v at : ℕ) → at ≡ slice_index_or places v 0 → from ≤ at → at < length xs
-    → (slice_index_or xs at 0 == v) ≡ stands places xs from v
-stands_here places xs from v at e l m = rw e (here (slice_index_or places v 0) (omega (arith, e, l)) (omega (arith, e, m)))
+pub is_listed_here : (places xs : List ℕ) (from v at : ℕ) → at ≡ slice_index_or places v 0 → from ≤ at → at < length xs
+    → (slice_index_or xs at 0 == v) ≡ is_listed_from places xs from v
+is_listed_here places xs from v at e l m = rw e (here (slice_index_or places v 0) (omega (arith, e, l)) (omega (arith, e, m)))
   where
     here : (k : ℕ) → from ≤ k → k < length xs → (slice_index_or xs k 0 == v) ≡ ((nat_lt k (length xs) && not (nat_lt k from)) && (slice_index_or xs k 0 == v))
     here k a b = rw (lt-ltb k (length xs) b, le-ltb k from a) refl
 
-pub stands_not : (places xs : List ℕ) (from v at : ℕ) → at ≡ slice_index_or places v 0 → (from ≤ at → at < length xs → ⊥) → stands places xs from v ≡ false
-stands_not places xs from v at e none = rw (← e) (there (cases_lt at from) (cases_lt at (length xs)))
+pub not_listed_from : (places xs : List ℕ) (from v at : ℕ) → at ≡ slice_index_or places v 0 → (from ≤ at → at < length xs → ⊥) → is_listed_from places xs from v ≡ false
+not_listed_from places xs from v at e none = rw (← e) (there (cases_lt at from) (cases_lt at (length xs)))
   where
     there : (at < from) ⊎ (from ≤ at) → (at < length xs) ⊎ (length xs ≤ at)
         → ((nat_lt at (length xs) && not (nat_lt at from)) && (slice_index_or xs at 0 == v)) ≡ false
@@ -297,13 +291,13 @@ stands_not places xs from v at e none = rw (← e) (there (cases_lt at from) (ca
     there (inr l) (inl m) = absurd (none l m)
     there (inl l) (inl m) = rw (lt-ltb at (length xs) m, lt-ltb at from l) refl
 
-pub stands_is : (places xs : List ℕ) → HasPlaces places xs → (from v : ℕ) → stands places xs from v ≡ listed (drop from xs) v
-stands_is places xs h from v = there (cases_lt (slice_index_or places v 0) from) (cases_lt (slice_index_or places v 0) (length xs))
+pub listed_from_is : (places xs : List ℕ) → HasPlaces places xs → (from v : ℕ) → is_listed_from places xs from v ≡ listed (drop from xs) v
+listed_from_is places xs h from v = there (cases_lt (slice_index_or places v 0) from) (cases_lt (slice_index_or places v 0) (length xs))
   where
     at : ℕ
     at = slice_index_or places v 0
 
-    there : (at < from) ⊎ (from ≤ at) → (at < length xs) ⊎ (length xs ≤ at) → stands places xs from v ≡ listed (drop from xs) v
-    there (inr l) (inl m) = sym (stands_here places xs from v at refl l m) ∙ has_place places xs h from v at refl l m
-    there (inl l) x = stands_not places xs from v at refl (λ a b. omega (arith, a, l)) ∙ sym (has_no_place places xs h from v at refl (λ a b. omega (arith, a, l)))
-    there x (inr m) = stands_not places xs from v at refl (λ a b. omega (arith, b, m)) ∙ sym (has_no_place places xs h from v at refl (λ a b. omega (arith, b, m)))
+    there : (at < from) ⊎ (from ≤ at) → (at < length xs) ⊎ (length xs ≤ at) → is_listed_from places xs from v ≡ listed (drop from xs) v
+    there (inr l) (inl m) = sym (is_listed_here places xs from v at refl l m) ∙ has_place places xs h from v at refl l m
+    there (inl l) x = not_listed_from places xs from v at refl (λ a b. omega (arith, a, l)) ∙ sym (has_no_place places xs h from v at refl (λ a b. omega (arith, a, l)))
+    there x (inr m) = not_listed_from places xs from v at refl (λ a b. omega (arith, b, m)) ∙ sym (has_no_place places xs h from v at refl (λ a b. omega (arith, b, m)))

@@ -1,18 +1,19 @@
 -- A subgame that is taken up again: what its opponent has taken is settled, the rest waits again, and what its player still wins is settled.
 use Rattle.pg_finders.proofs.Common.{◌≡◌, ◌≢◌, ℕ, ◌+◌, ◌-◌, ◌<◌, Bool, false, ◌&&◌, not, ◌⊎◌, inl, inr, List, [], ◌∷◌, ◌++◌, length, take, drop}
-use Rattle.pg_finders.proofs.Common.{refl, sym, ◌∙◌, ap, subst, arith, append_assoc, length-append, fun_ext, append-nil, take-append-drop, ◌==◌, eq-eqb, or_left, or_right, or_cases}
+use Rattle.pg_finders.proofs.Common.{refl, sym, ◌∙◌, ap, subst, arith, append_assoc, length-append, fun_ext, append-nil, ◌==◌, eq-eqb, or_left, or_right, or_cases}
 use Rattle.pg_finders.proofs.Common.{and-true, cases_Bool, false_from_ne_true, Player, Even, Odd, opponent, Graph, HasEdge, owner_of, VertexSet, In, members, union, without}
 use Rattle.pg_finders.proofs.Common.{IsSubgame, own_or_other, Some, Plan, Frame, listed, Once, SettledLists, winners_of, choices_of, SameAt, how_many, IsBegun, IsSolvedInside, IsSolvedTo}
 use Rattle.pg_finders.proofs.Common.{IsAttracted, won_inside, WinsOn, place, HasTaken, AttractsNoActive, count_at, prefix, level_at, AreOpenLevels, gone, how_many_gone, steps, steps_left}
+use Rattle.pg_finders.proofs.Common.{both_ways}
 use Rattle.std.proofs.Common.{length-drop, length-take}
 use Rattle.std.proofs.lemmas.List.{append_cancel_left}
 use Rattle.pg_finders.specs.private.recursion.Shrunk.{IsShrunk}
-use Rattle.pg_finders.proofs.Sets.{not_both, no_both, only, minus, minus_both, equal_from}
+use Rattle.pg_finders.proofs.Sets.{not_both, no_both, only, minus, minus_both}
 use Rattle.pg_finders.proofs.recursion.ListsAsSets.{listed-append, in_prefix, prefix_or_rest, in_take, in_drop, once_join, once_drop, apart_from, listed_get}
 use Rattle.pg_finders.proofs.SolvedSubgames.{solved_none, IsSolvedTo-subst, IsSubgame-subst, IsAttracted-same, part_lost, left_is_subgame}
 use Rattle.pg_finders.proofs.KeptSubgames.{attracted_again, subgame_again, left_again, begun_again, still_held, still_solved}
 use Rattle.pg_finders.proofs.recursion.AttractionSteps.{grown_attracted}
-use Rattle.pg_finders.proofs.recursion.SharedLists.{pick}
+use Rattle.pg_finders.proofs.recursion.SharedLists.{cut, pick}
 use Rattle.pg_finders.proofs.recursion.LoopSteps.{Finishes, Begins, lists_fit, counts_fit, last_begun, since_inside, since_left, left_solved, won_since, finish_more}
 use Rattle.pg_finders.proofs.recursion.LoopSteps.{open_levels_begin, open_levels_finish}
 use Rattle.pg_finders.proofs.recursion.KeptLevels.{SettlesMore, open_levels_settle, longer, work_resume, work_drop}
@@ -89,9 +90,6 @@ module _ {g : Graph} {U : VertexSet} {frames : List Frame} {f : Frame} {active :
   won_is : (r : Player) (v : ℕ) → won_inside L (winners_of old) r v ≡ listed (since r) v
   won_is r v = won_since frames f h.run h.none r v
 
-  cut : (r : Player) → settled r ≡ prefix f settled r ++ since r
-  cut r = sym (take-append-drop (count_at f r) (settled r))
-
   -- where an active vertex is
   active_rest : (v : ℕ) → In A v → In R v × (listed kept v ≡ false)
   active_rest v i = only (R v) (listed kept v) (sym (h.shrunk.active_is v) ∙ i)
@@ -134,7 +132,7 @@ module _ {g : Graph} {U : VertexSet} {frames : List Frame} {f : Frame} {active :
       ap length own_between ∙ omega (arith, a, length-take (count_at f p) (settled p)))
 
   pub other_same : between q ≡ settled q ++ taken
-  other_same = other_between ∙ (sym (append_assoc (prefix f settled q) (since q) taken) ∙ ap (λ xs. xs ++ taken) (sym (cut q)))
+  other_same = other_between ∙ (sym (append_assoc (prefix f settled q) (since q) taken) ∙ ap (λ xs. xs ++ taken) (sym (cut f settled q)))
 
   outside : (v : ℕ) → I v ≡ false → SameAt old new v
   outside v n =
@@ -204,7 +202,7 @@ module _ {g : Graph} {U : VertexSet} {frames : List Frame} {f : Frame} {active :
   ]
 
   rest_union : (v : ℕ) → union A (listed kept) v ≡ R v
-  rest_union v = equal_from (union A (listed kept) v) (R v)
+  rest_union v = both_ways (union A (listed kept) v) (R v)
       (λ i. elim (or_cases (A v) (listed kept v) i) [ inl y ↦ (active_rest v y).0 | inr y ↦ kept_rest v y ])
       (λ i. elim (rest_cases v i) [ inl y ↦ or_left (A v) (listed kept v) y | inr y ↦ or_right (A v) (listed kept v) y ])
 
@@ -282,7 +280,7 @@ module _ {g : Graph} {U : VertexSet} {frames : List Frame} {f : Frame} {active :
   settles : SettlesMore g p R Q between settled' Y (winners_of new) (winners_of new) (choices_of new) (choices_of new)
   settles = record {
     own_is = h.own ∙ (append_assoc (prefix f settled p) kept more ∙ ap (λ xs. xs ++ Y) (sym own_between));
-    other_is = h.other ∙ (ap (λ xs. xs ++ taken) (cut q) ∙ (append_assoc (prefix f settled q) (since q) taken ∙ sym other_between));
+    other_is = h.other ∙ (ap (λ xs. xs ++ taken) (cut f settled q) ∙ (append_assoc (prefix f settled q) (since q) taken ∙ sym other_between));
     once = once_join kept more h.kept_once (subst Once (sym more_is) h.grown.once) (apart_from kept more (λ v i j.
         no_both (h.grown.were_active v (subst (λ xs. In (listed xs) v) more_is j)) (kept_out v i)));
     were_active = λ v i. elim (prefix_or_rest kept more v i) [

@@ -1,7 +1,7 @@
 -- Lists that are shared: what stops in a row say of them, and which levels stay the same.
 use Rattle.pg_finders.proofs.Common.{◌≡◌, ℕ, ◌≤◌, false, ◌||◌, ◌⊎◌, List, [], ◌∷◌, ◌++◌, take, map, refl, sym, ◌∙◌, ap, arith, rules, or_cases}
 use Rattle.pg_finders.proofs.Common.{or_left, or_right, false_from_ne_true, Player, Even, Odd, opponent, same_player, if◌then◌else◌, VertexSet, In, Frame}
-use Rattle.pg_finders.proofs.Common.{listed, Apart, SettledLists, gone, part, count_at, prefix, level_at, Linked, fun_ext, drop}
+use Rattle.pg_finders.proofs.Common.{listed, Apart, SettledLists, gone, part, count_at, prefix, level_at, Linked, fun_ext, drop, take-append-drop}
 use Rattle.std.proofs.Math.Bool.{or_comm}
 use Rattle.pg_finders.proofs.Sets.{no_both, minus, only}
 use Rattle.pg_finders.proofs.recursion.ListsAsSets.{apart_other}
@@ -19,6 +19,10 @@ pick_apart x0 xs ys a = search (rules, apart_other)
 
 pub pick_either : (p : Player) (xs ys : List ℕ) (v : ℕ) → (listed (pick p xs ys Even) v || listed (pick p xs ys Odd) v) ≡ (listed xs v || listed ys v)
 pick_either x0 xs ys v = search (rules, or_comm)
+
+-- a player's list is what it was when the subgame began, and what came since
+pub cut : (f : Frame) (settled : SettledLists) (p : Player) → settled p ≡ prefix f settled p ++ drop (count_at f p) (settled p)
+cut f settled p = sym (take-append-drop (count_at f p) (settled p))
 
 pub gone_settled : (settled : SettledLists) (set_aside : List ℕ) (p : Player) (v : ℕ) → In (listed (settled p)) v → In (gone settled set_aside) v
 gone_settled settled set_aside Even v i = search (rules, or_left)

@@ -4,10 +4,10 @@ use Rattle.pg_finders.proofs.Common.{◌≡◌, ℕ, false, true, ◌⊎◌, inl
 use Rattle.pg_finders.proofs.Common.{subst, fun_ext, cases_Bool, or_cases, or_left, or_right, or_parts, eqb-true, false_from_ne_true, Bool, opponent, Graph}
 use Rattle.pg_finders.proofs.Common.{HasEdge, owner_of, VertexSet, In, Within, union, without, own_or_other, Plan, Frame, Level, listed, SettledLists}
 use Rattle.pg_finders.proofs.Common.{winners_of, choices_of, SameAt, SameOutside, IsBegun, WinsOn, IsAttracted, place, HasTaken, AttractsNoActive}
-use Rattle.pg_finders.proofs.Common.{count_at, level_at, AreOpenLevels}
+use Rattle.pg_finders.proofs.Common.{count_at, level_at, AreOpenLevels, both_ways}
 use Rattle.std.specs.List.{filter}
 use Rattle.std.proofs.lemmas.List.{append_cancel_left}
-use Rattle.pg_finders.proofs.Sets.{not_both, twice, no_both, equal_from, only, minus}
+use Rattle.pg_finders.proofs.Sets.{not_both, twice, no_both, only, minus}
 use Rattle.pg_finders.proofs.SolvedSubgames.{Holds-subst, left_is_subgame, IsAttracted-same}
 use Rattle.pg_finders.proofs.recursion.ListsAsSets.{listed-append, in_prefix, in_rest, in_drop}
 use Rattle.pg_finders.proofs.recursion.FilteredLists.{filter_keeps, filter_fewer}
@@ -70,7 +70,7 @@ module _ {g : Graph} {level : Level} {aside lost won : List ℕ} {old : Plan} (s
   L = level.left
 
   pub aside_is : (v : ℕ) → listed aside v ≡ without I L v
-  aside_is v = equal_from (listed aside v) (without I L v) (λ y. minus (s.aside_out v y).0 (s.aside_out v y).1) (λ y.
+  aside_is v = both_ways (listed aside v) (without I L v) (λ y. minus (s.aside_out v y).0 (s.aside_out v y).1) (λ y.
       (let b = only (I v) (L v) y in elim (s.parts v b.0) [
         | inl a ↦ a
         | inr (inl w) ↦ absurd (no_both (s.won_left v w) b.1)
@@ -100,7 +100,7 @@ module _ {g : Graph} {level : Level} {aside lost won : List ℕ} {old : Plan} (s
     free_out v i = false_from_ne_true (listed lost v) (λ y. no_both i (lost_apart v y))
 
     whole : (v : ℕ) → union F (listed lost) v ≡ I v
-    whole v = equal_from (union F (listed lost) v) (I v) (λ y. elim (or_cases (F v) (listed lost v) y) [
+    whole v = both_ways (union F (listed lost) v) (I v) (λ y. elim (or_cases (F v) (listed lost v) y) [
       | inl f ↦ free_inside v f
       | inr w ↦ s.begun.within v (s.lost_left v w)
     ]) (λ y. elim (s.parts v y) [
@@ -143,7 +143,7 @@ module _ {g : Graph} {level : Level} {aside lost won : List ℕ} {old : Plan} (s
       out_from v a b = listed-append lost taken v ∙ rw (a, b) refl
 
       pub rest_active : (v : ℕ) → without (listed aside) (listed taken) v ≡ without (without I L) B v
-      rest_active v = equal_from (without (listed aside) (listed taken) v) (without (without I L) B v) (λ y.
+      rest_active v = both_ways (without (listed aside) (listed taken) v) (without (without I L) B v) (λ y.
           (let b = only (listed aside v) (listed taken v) y in
           minus (sym (aside_is v) ∙ b.0) (out_from v (free_out v (free_aside v b.0)) b.1)))
           (λ y. (let b = only (without I L v) (B v) y in minus (aside_is v ∙ b.0) (out_parts v b.1).1))
@@ -153,7 +153,7 @@ module _ {g : Graph} {level : Level} {aside lost won : List ℕ} {old : Plan} (s
           minus (s.begun.within v (s.won_left v b.0)) (out_from v (free_out v (free_won v b.0)) b.1))
 
       pub rest_free : (v : ℕ) → union (without (listed aside) (listed taken)) (without (listed won) (listed taken)) v ≡ without I B v
-      rest_free v = equal_from (union (without (listed aside) (listed taken)) (without (listed won) (listed taken)) v) (without I B v)
+      rest_free v = both_ways (union (without (listed aside) (listed taken)) (without (listed won) (listed taken)) v) (without I B v)
           (λ y. elim (or_cases (without (listed aside) (listed taken) v) (without (listed won) (listed taken) v) y) [
             | inl x ↦ (let b = only (without I L v) (B v) (sym (rest_active v) ∙ x) in minus (only (I v) (L v) b.0).0 b.1)
             | inr x ↦ won_out v x
@@ -192,7 +192,7 @@ module _ {g : Graph} {level : Level} {aside lost won : List ℕ} {old : Plan} (s
             (first : take k list ≡ filter (λ v. Y v) greatest)
             (again : IsAttracted g level.player Y (listed (take k list)) (listed list) (choices_of new) (place list)) (same : SameOutside Y mid new) where
           pub tops_left : (v : ℕ) → listed (take k list) v ≡ without level.tops B v
-          tops_left v = ap (λ xs. listed xs v) first ∙ equal_from (listed (filter (λ u. Y u) greatest) v) (without level.tops B v)
+          tops_left v = ap (λ xs. listed xs v) first ∙ both_ways (listed (filter (λ u. Y u) greatest) v) (without level.tops B v)
               (λ y. minus (tops_are v ∙ filter_fewer (λ u. Y u) greatest v y) (only (I v) (B v) (active_parts v (filter_holds (λ u. Y u) greatest v y)).1).1)
               (λ y. (let b = only (level.tops v) (B v) y in
               filter_keeps (λ u. Y u) greatest v (sym (tops_are v) ∙ b.0) (active v ∙ minus (s.begun.attracted.target v b.0) b.1)))
@@ -232,7 +232,7 @@ module _ {g : Graph} {level : Level} {aside lost won : List ℕ} {old : Plan} (s
               → ((v : ℕ) → listed kept v ≡ without (without (listed won) (listed taken)) (listed more) v)
               → (v : ℕ) → Z v ≡ without (without (without I B) (listed list)) (listed kept) v
           active_end {Z} more kept now were kept_is v = now v
-              ∙ equal_from (union (without Y (listed list)) (listed more) v) (without (without (without I B) (listed list)) (listed kept) v) there back
+              ∙ both_ways (union (without Y (listed list)) (listed more) v) (without (without (without I B) (listed list)) (listed kept) v) there back
             where
               won_in : In (without (listed won) (listed taken)) v → In L v
               won_in i = s.won_left v (only (listed won v) (listed taken v) i).0

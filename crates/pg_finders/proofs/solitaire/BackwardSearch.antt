@@ -7,6 +7,7 @@ use Rattle.std.specs.Prelude.{slice_index}
 use Rattle.pg_game.proofs.Masks.{members-set}
 use Rattle.std.proofs.lemmas.Bool.{ne_eqb}
 use Rattle.pg_game.proofs.Masks.{none_mask}
+use Rattle.pg_finders.proofs.Rows.{last_or}
 
 -- a member of a mask with one more vertex
 set_cases : (mask : List Bool) (v x : ℕ) → v < length mask → In (members (set mask v true)) x → (x ≡ v) ⊎ ((x ≢ v) × In (members mask) x)
@@ -75,9 +76,6 @@ module _ (g : Graph) (U : VertexSet) (top goal : ℕ) where
       → Walk (EdgeBelow g U top) v vs goal → In taken v
   walk_taken taken closed v [] e = closed goal (inl refl) v e
   walk_taken taken closed v (w ∷ ws) e = closed w (inr (walk_taken taken closed w ws e.1)) v e.0
-
-last_or : (queue : List ℕ) (v i : ℕ) → i < length (queue ++ v ∷ []) → (i < length queue) ⊎ (i ≡ length queue)
-last_or queue v i l = let h = length-append queue (v ∷ []) in grind arith
 
 module _ (g : Graph) (goal : ℕ) where
   pub queue_one : (taken : List Bool) → goal < length g → ((v : ℕ) → members taken v ≡ false) → IsQueue g goal taken (goal ∷ [])

@@ -1,7 +1,7 @@
 -- A subgame where one player has no choice: what the other wins by a closed walk, and that without one all is his who has no choice.
 use Rattle.pg_finders.proofs.Common.{rules, ◌≡◌, ◌≢◌, ℕ, ◌+◌, ◌<◌, ◌≤◌, Bool, true, false, ◌&&◌, ◌||◌, inl, inr, List, [], ◌∷◌, length, refl, sym, ◌∙◌, ap}
 use Rattle.pg_finders.proofs.Common.{subst, arith, fun_ext, Option, Some, None, IfOk, IfSome, IsNone, ◌==◌, Contains, Player, Even, Odd, same_player}
-use Rattle.pg_finders.proofs.Common.{opponent, of_parity, Graph, HasEdge, owner_of, priority_of, VertexSet, In, members, KeptEdge, Walk}
+use Rattle.pg_finders.proofs.Common.{opponent, of_parity, Graph, HasEdge, owner_of, priority_of, successors_of, VertexSet, In, members, KeptEdge, Walk}
 use Rattle.pg_finders.proofs.Common.{ClosedWalk, greatest_priority, NoneHas, OnlyGoodWalks, some_or_none, good_from_none, same_is, is_same}
 use Rattle.pg_finders.proofs.Common.{Claim, StrategyGraph, ClaimRows, named, IsGoodIn, IsOnBadCycle, IsSolitaire, WinsOn, own_choices, rows_below, HasOneAt}
 use Rattle.pg_finders.proofs.Common.{IsSingle, IsForcedBelow, Choices, kept, cases_eq, choices_by, EdgeBelow, AreLeading, eqb-true, eq-eqb}
@@ -10,14 +10,18 @@ use Rattle.std.proofs.Math.Bool.{or-false, and-false}
 use Rattle.std.proofs.lemmas.Bool.{lt-ltb}
 use Rattle.std.specs.Prelude.{Result, slice_index, nat_lt}
 use Rattle.std.specs.declared.alloc.AllocError.{AllocError}
-use Rattle.pg_dominion.specs.KeptEdges.{Edge, KeepsNothing, IsKeptWith, kept_choice, ends_at, is_bad}
-use Rattle.pg_dominion.specs.Strategies.{IsStrategy}
+use Rattle.pg_dominion.specs.KeptEdges.{Edge, IsStrategy, KeepsNothing, IsKeptWith, kept_choice, ends_at, is_bad}
 use Rattle.pg_dominion.proofs.Strategies.{none_below, below_next, strategy_none, strategy_next, ends_kept, to_kept, bad_cycle_of_player}
 use Rattle.pg_finders.specs.Finding.{HasOneSuccessor}
 use Rattle.pg_finders.proofs.Sets.{twice}
 use Rattle.pg_finders.proofs.ClosedWalks.{Among, closed_among, closed_inside, closed_begins, never_falls, greatest_reached}
 use Rattle.pg_finders.proofs.SolvedSubgames.{kept_leads, choice_leads}
 use Rattle.pg_finders.proofs.GoodClaims.{Holds-own, rows_named, good_rows}
+
+-- among the first successors, up to this number, the single one in the set; none if none of them is in it
+abbrev pub SingleSoFar : Graph → VertexSet → ℕ → ℕ → Option ℕ → Type 0
+SingleSoFar g U v i None = (k : ℕ) → k < i → U (slice_index (successors_of g v) k) ≡ false
+SingleSoFar g U v i (Some x) = HasEdge g v x × In U x × ((k : ℕ) → k < i → In U (slice_index (successors_of g v) k) → slice_index (successors_of g v) k ≡ x)
 
 -- what is single is one
 pub one_from_single : (g : Graph) (U : VertexSet) (v : ℕ) (o : Option ℕ) → (IsNone o → ⊥) → IfSome o (λ w. IsSingle g U v w) → HasOneAt g U v

@@ -6,5 +6,3 @@ pub mod Partial
 pub mod Walked
 pub mod SearchSteps
 pub mod Ends
-pub mod Small
-pub mod InSearch

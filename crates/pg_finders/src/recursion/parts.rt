@@ -2,7 +2,7 @@
 //! 2020). What was won stays won where nothing on which it rests has changed: the choices of its player, and the opponent's
 //! edges inside. So the time that this takes is that of what changes.
 
-ghost use Rattle.std.specs.Prelude.{◌≡◌, ◌==◌, ◌<◌, ◌≤◌, ◌++◌, ◌∷◌, ℕ, List, [], length, drop, take, All, IfOk, IfSome, IsNone, OnOk, Some, false, true, slice_index, ◌⊎◌};
+ghost use Rattle.std.specs.Prelude.{◌≡◌, ◌==◌, ◌<◌, ◌≤◌, ◌++◌, ◌∷◌, ℕ, [], length, drop, take, All, IfOk, IfSome, IsNone, OnOk, Some, false, true, slice_index, ◌⊎◌};
 ghost use Rattle.std.specs.List.{filter};
 ghost use Rattle.pg_game.specs.Graph.{HasEdge, owner_of};
 ghost use Rattle.pg_game.specs.Player.{opponent};
@@ -18,7 +18,6 @@ use crate::recursion::settled::Settled;
 use crate::recursion::subgame::{Subgame, remove_all};
 use pg_dominion::{AttractorState, attract_from};
 use pg_game::{Game, Mask, Memory, Player};
-use std::alloc::Global;
 
 /// The active vertices and the settled ones. Free are the active ones, and those of the player that were settled from a place on.
 #[derive(Drop)]
@@ -30,7 +29,7 @@ pub struct Parts {
 }
 
 impl Parts {
-    /// Both. Only the active vertices are free, if none is settled.
+    /// A subgame with its settled vertices. Only the active vertices are free, if none is settled.
     pub fn new(subgame: Subgame, settled: Settled) -> Parts
         ensures subgame { result.subgame ≡ subgame }
         ensures settled { result.settled ≡ settled }

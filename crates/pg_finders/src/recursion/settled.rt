@@ -6,7 +6,7 @@ ghost use Rattle.pg_game.specs.Player.{opponent};
 ghost use Rattle.pg_game.specs.VertexSet.{In};
 ghost use Rattle.pg_finders.specs.private.recursion.Listed.{listed, Once, Apart};
 ghost use Rattle.pg_finders.specs.private.recursion.Settled.{settled_of, IsPlaced, IsWithout};
-ghost use Rattle.pg_finders.specs.private.recursion.Places.{HasPlaces, stands};
+ghost use Rattle.pg_finders.specs.private.recursion.Places.{HasPlaces, is_listed_from};
 
 use pg_game::{Memory, Player};
 use std::alloc::Global;
@@ -52,7 +52,7 @@ impl Settled {
     /// Whether the vertex is in the player's list, from the place `from` on.
     pub fn has_from(&self, player: Player, from: usize, v: u32) -> bool
         requires { v < length self.now.places.items }
-        ensures stands { result ≡ stands self.now.places.items (settled_of self.now player) from v }
+        ensures place { result ≡ is_listed_from self.now.places.items (settled_of self.now player) from v }
         ensures listed { (n : ℕ) → IsPlaced n self.now → result ≡ listed (drop from (settled_of self.now player)) v }
     {
         let list = self.list(player);
@@ -123,7 +123,7 @@ fn append(list: &mut Vec<u32>, places: &mut Vec<u32>, vertices: &[u32]) -> Resul
     Ok(())
 }
 
-/// Writes the places of the vertices, which stand in a list from a place on.
+/// Writes the places of the vertices, which are in a list from a place on.
 fn place_all(places: &mut Vec<u32>, vertices: &[u32], from: usize)
     requires below { All (λ v. v < length places.old.items) vertices.now }
     requires few { from + length vertices.now < 2 ^ 32 }

@@ -8,7 +8,7 @@ ghost use Rattle.std.proofs.Props.{props};
 ghost use Rattle.pg_dominion.specs.Claim.{row_at, named, choice_in};
 ghost use Rattle.pg_finders.specs.private.small.Partial.{AreFew};
 ghost use Rattle.pg_finders.specs.private.small.Search.{search_in};
-ghost use Rattle.pg_finders.specs.private.small.Excluded.{IsBetween, NoneHasBetween};
+ghost use Rattle.pg_finders.specs.private.small.Excluded.{IsBetween, NoClaimHasBetween};
 ghost use Rattle.pg_game.specs.Region.{OnlyGoodWalks};
 ghost use Rattle.pg_finders.specs.private.small.Walked.{RowLeadsTo, IsReachedNext, IsReached, WalksBack};
 
@@ -203,7 +203,7 @@ pub struct DominionSearch<'a> {
     pub excluded: Excluded,
     ghost sizes: { length mask.now ≡ length game.now },
     ghost few: { bound ≤ 8 },
-    ghost none: { NoneHasBetween (search_in game.now mask.now player bound) excluded.low excluded.high },
+    ghost none: { NoClaimHasBetween (search_in game.now mask.now player bound) excluded.low excluded.high },
 }
 
 /// The first rows of an unfinished claim, and the edges that their vertices keep.

@@ -3,13 +3,13 @@ use Rattle.pg_game.proofs.Common.{◌≡◌, ℕ, suc, ◌+◌, ◌<◌, false, 
 use Rattle.pg_game.proofs.Common.{◌==◌, ◌↔◌, Contains, list_any, IsStrictlyIncreasing, IsPermutation, false_from_ne_true, length-map, get_or-map, ext_get_or}
 use Rattle.pg_game.proofs.Common.{Contains-get_or, sum_by-cons, Spec, IsGame, AreNumbers, IsGameOf, first_fault, first_repeated, edges, different}
 use Rattle.pg_game.proofs.Common.{priorities_of}
-use Rattle.pg_game.proofs.Common.{owners_of, ids_of, successor_lists, ArePlaces, row_at, size_of, graph_of, IsStored, AreAllPlaces, AreResolvedSpecs}
+use Rattle.pg_game.proofs.Common.{owners_of, ids_of, successor_lists, row_at, size_of, graph_of, IsStored, AreAllPlaces, AreResolvedSpecs}
 use Rattle.pg_game.proofs.Members.{Contains-head, Contains-tail, Contains-cons}
 use Rattle.pg_game.proofs.Gathered.{any_from}
 use Rattle.pg_game.proofs.Different.{rising_tail, below_first, different_is}
 use Rattle.pg_game.proofs.identifiers.Places.{rises, same_place}
 use Rattle.pg_game.proofs.Sound.{sound_is}
-use Rattle.pg_game.proofs.builder.GamesWithoutFault.{no_spec, IsLaid, made_game, made_of, made_stored}
+use Rattle.pg_game.proofs.builder.GamesWithoutFault.{ArePlaces, no_spec, IsLaid, made_game, made_of, made_stored}
 
 module _ {ids : List ℕ} (up : IsStrictlyIncreasing ids) {successors places : List ℕ} (a : AreAllPlaces ids successors places) where
   abbrev name : ℕ → ℕ

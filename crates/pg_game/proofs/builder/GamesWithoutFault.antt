@@ -1,14 +1,20 @@
 -- The game that is made of specifications without fault.
-use Rattle.pg_game.proofs.Common.{◌≡◌, ℕ, ◌<◌, ◌≤◌, true, List, [], ◌∷◌, length, map, get_or, refl, sym, ◌∙◌, ap, subst, arith, rules, All, Some, slice_get}
+use Rattle.pg_game.proofs.Common.{◌↔◌, slice_index, ◌≡◌, ℕ, ◌<◌, ◌≤◌, true, List, [], ◌∷◌, length, map, get_or, refl, sym, ◌∙◌, ap, subst, arith, rules, All, Some, slice_get}
 use Rattle.pg_game.proofs.Common.{sum_by, Contains, IsStrictlyIncreasing, IsPermutation, length-map, get_or-map, get_or_default, Contains-get_or}
 use Rattle.pg_game.proofs.Common.{length_permutation, Contains-permutation, IsPermutation-sym, IsPermutation-map, All-permutation, sum_by-IsPermutation}
 use Rattle.pg_game.proofs.Common.{sum_by-cons, slice_get-get_or, Player, Even, Spec, AreNumbers, IsSpecified, IsGameOf, IsVertexOf, number_of, edges, different}
-use Rattle.pg_game.proofs.Common.{ids_of, priorities_of, owners_of, ArePlaces, row_at, size_of, IsWithinLimits, Graph, Vertex, IsGame}
+use Rattle.pg_game.proofs.Common.{ids_of, priorities_of, owners_of, row_at, size_of, IsWithinLimits, Graph, Vertex, IsGame}
 use Rattle.pg_game.proofs.Common.{AreSuccessors, no_vertex, vertex_at, priority_of, owner_of, successors_of, graph_of, AreParts, IsStored}
 use Rattle.pg_game.proofs.Sound.{IsSound, each_has, each_known}
 use Rattle.pg_game.proofs.adjacency.RisingLists.{number_is}
 use Rattle.pg_game.proofs.builder.FirstUnknown.{from_specified}
 use Rattle.pg_game.proofs.game.Parts as part
+
+-- rising, no more than there are different successors, and exactly the places of their identifiers
+pub record ArePlaces (ids successors places : List ℕ) : Type 0 where
+  pub rising : IsStrictlyIncreasing places
+  pub size : length places ≤ different successors
+  pub members : (w : ℕ) → Contains places w ↔ ((w < length ids) × Contains successors (slice_index ids w))
 
 -- specifications by rising identifier, and their rows
 pub record IsLaid (specs sorted : List Spec) (ids : List ℕ) (rows : List (List ℕ)) : Type 0 where

@@ -1,13 +1,12 @@
 -- Specifications, one part of each; places of identifiers in a list of them.
-use Rattle.std.specs.Prelude.{ℕ, ◌<◌, ◌≤◌, ◌↔◌, List, [], length, map, find, not, nat_eq, Option, None, slice_index}
-use Rattle.std.specs.Prelude.{Contains, Some, if◌then◌else◌, nat_lt}
+use Rattle.std.specs.Prelude.{ℕ, List, [], map, find, not, nat_eq, Option, None}
+use Rattle.std.specs.Prelude.{Some, if◌then◌else◌, nat_lt}
 use Rattle.std.specs.List.{list_any}
-use Rattle.std.specs.List.Sorted.{IsStrictlyIncreasing}
 use Rattle.pg_game.specs.declared.player.Player.{Player}
 use Rattle.pg_game.specs.declared.specification.Spec.{Spec}
 use Rattle.pg_game.specs.declared.specification.GameFault.{GameFault}
 use Rattle.pg_game.specs.declared.specification.GameFault.TheVariants.{Twice, NoSuccessor, TooManyEdges, Unknown}
-use Rattle.pg_game.specs.Specification.{fault_or, first_repeated, first_without, first_unknown, edges, max_edges, different}
+use Rattle.pg_game.specs.Specification.{fault_or, first_repeated, first_without, first_unknown, edges, max_edges}
 
 abbrev pub ids_of : List Spec → List ℕ
 ids_of specs = map (λ s. s.id) specs
@@ -34,9 +33,3 @@ rows_fault specs =
 -- the first that is not among the identifiers
 abbrev pub first_outside : List ℕ → List ℕ → Option ℕ
 first_outside ids successors = find (λ i. not (list_any (nat_eq i) ids)) successors
-
--- rising, no more than there are different successors, and exactly the places of their identifiers
-pub record ArePlaces (ids successors places : List ℕ) : Type 0 where
-  pub rising : IsStrictlyIncreasing places
-  pub size : length places ≤ different successors
-  pub members : (w : ℕ) → Contains places w ↔ ((w < length ids) × Contains successors (slice_index ids w))

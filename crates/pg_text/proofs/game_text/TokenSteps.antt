@@ -12,12 +12,23 @@ use Rattle.pg_text.specs.declared.reader.Symbol.{Symbol}
 use Rattle.pg_text.specs.declared.reader.Symbol.TheVariants as symbol
 use Rattle.pg_text.specs.declared.reader.State.TheVariants.{Start, HeadWord, HeadNumber, Headed, StartWord, StartNumber, Started, Ready, Id, Priority, Player as Owner}
 use Rattle.pg_text.specs.declared.reader.State.TheVariants.{Listing, Vertex, Named}
-use Rattle.pg_text.specs.private.GameReads.{line, AreNonempty, IsWhole, AreOwners, AreLines, begun, Leads, part_after, Agrees, SaysSpecs}
-use Rattle.pg_text.specs.private.Machine.{symbol_of, run, lines_after, Read, Stops}
+use Rattle.pg_text.specs.private.GameReads.{AreNonempty, IsWhole, AreOwners, AreLines, begun, Leads, Agrees, SaysSpecs}
+use Rattle.pg_text.specs.private.Machine.{symbol_of, number_of, run, Read, Stops}
 use Rattle.pg_text.specs.private.Tables.{game_table as table}
 use Rattle.pg_game.proofs.AllElements.{all-push}
+use Rattle.pg_text.proofs.laws.UniqueGameLines.{line}
 use Rattle.pg_text.proofs.laws.ExclusiveFaults.{game_prefix, game_begins}
-use Rattle.pg_text.proofs.reader.Machine.{word_cases, pushed, leads_in, goes_on, stops_at}
+use Rattle.pg_text.proofs.reader.Machine.{lines_after, word_cases, pushed, leads_in, goes_on, stops_at}
+
+-- the line begun, after a token that leads to the state
+abbrev part_after : State → Token → WrittenGameLine → WrittenGameLine
+part_after Id t l = record l { id = number_of t }
+part_after Priority t l = record l { priority = number_of t }
+part_after Owner t l = record l { owner = number_of t; successors = []; name = None }
+part_after Vertex t l = record l { successors = l.successors ++ number_of t ∷ [] }
+part_after Named (Name bytes) l = record l { name = Some bytes }
+part_after Ready t l = record l { successors = []; name = None }
+part_after s t l = l
 
 -- every text leads to a state where it may end
 run-listing : (w : ℕ) (ws : List ℕ) (more : List Token) → run table (Some Listing) (separated (w ∷ ws) ++ more) ≡ run table (Some Vertex) more

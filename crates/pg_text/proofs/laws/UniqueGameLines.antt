@@ -4,10 +4,13 @@ use Rattle.pg_text.proofs.Common.{append-nil, Token, Number, Comma, Semicolon, P
 use Rattle.pg_text.proofs.Common.{name_tokens, game_line_tokens, game_tokens, IsGameText, BeginsGameText, IsBeforeOwner, IsSomeGameText}
 use Rattle.std.proofs.Common.{Option, Some, None}
 use Rattle.pg_text.specs.GameText.{headed}
-use Rattle.pg_text.specs.private.GameReads.{line, AreOwners}
+use Rattle.pg_text.specs.private.GameReads.{AreOwners}
 use Rattle.pg_text.proofs.laws.UniqueTokens.{one_spelling}
 use Rattle.pg_text.proofs.laws.UniqueLines.{Avoids, behind_head, no_word, lines_once, player_small}
 use Rattle.pg_text.proofs.laws.ExclusiveFaults.{tokens_at, player_once, game_prefix, game_begins}
+
+abbrev pub line : ℕ → ℕ → ℕ → List ℕ → Option (List ℕ) → WrittenGameLine
+line id priority owner successors name = record { id = id; priority = priority; owner = owner; successors = successors; name = name }
 
 abbrev rest : List ℕ → Option (List ℕ) → List Token
 rest ws name = separated ws ++ (name_tokens name ++ Semicolon ∷ [])

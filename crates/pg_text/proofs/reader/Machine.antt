@@ -4,10 +4,15 @@ use Rattle.std.specs.Prelude.{cond}
 use Rattle.std.specs.Bool.{Decides}
 use Rattle.std.proofs.Common.{Option, Some, None}
 use Rattle.pg_text.specs.declared.reader.State.{State}
-use Rattle.pg_text.specs.declared.reader.State.TheVariants.{Start, Player}
+use Rattle.pg_text.specs.declared.reader.State.TheVariants.{Start, Ready, Player}
 use Rattle.pg_text.specs.declared.reader.Symbol.{Symbol}
 use Rattle.pg_text.specs.declared.reader.Symbol.TheVariants as symbol
-use Rattle.pg_text.specs.private.Machine.{Table, word_symbol, symbol_of, number_of, run, lines_after, Read, Stops, Enters}
+use Rattle.pg_text.specs.private.Machine.{Table, word_symbol, symbol_of, number_of, run, Read, Stops, Enters}
+
+-- the whole lines, after a token that leads to the state
+abbrev pub lines_after : {L : Type 0} → State → L → List L → List L
+lines_after Ready l lines = lines ++ l ∷ []
+lines_after s l lines = lines
 
 module _ (letters : List ℕ) (P : Symbol → Type 0) where
   decided : (word : List ℕ) (x y : Symbol) → (letters ≡ word → P x) → P y → P (cond (bytes_eq letters word) x y)

@@ -1,6 +1,7 @@
 -- What is known of a solution text goes on, a token at a time.
 use Rattle.pg_text.proofs.Common.{◌≡◌, ℕ, zero, suc, ◌<◌, ◌≤◌, Bool, true, List, [], ◌∷◌, ◌++◌, refl, sym, ◌∙◌, ap, subst, arith, rules, map, flat_map}
-use Rattle.pg_text.proofs.Common.{append_assoc, append-nil, IfSome, Player, digit_of, SolutionLine, Token, Number, Word, Semicolon, player_of}
+use Rattle.pg_text.proofs.Common.{append_assoc, append-nil, IfSome, Player, digit_of, SolutionLine, Token, Number, Word, Semicolon}
+use Rattle.pg_game.specs.Player.{of_digit}
 use Rattle.pg_text.proofs.Common.{WrittenSolutionLine, solution_tokens, IsSolutionText, IsBeforeWinner, BeginsSolutionText, IsSomeSolutionText, line_of, ◌⊎◌, inl, inr}
 use Rattle.std.proofs.Common.{Option, Some, None}
 use Rattle.std.proofs.lemmas.Grind.{flat_map-append}
@@ -9,11 +10,18 @@ use Rattle.pg_text.specs.declared.reader.State.{State}
 use Rattle.pg_text.specs.declared.reader.Symbol.{Symbol}
 use Rattle.pg_text.specs.declared.reader.Symbol.TheVariants as symbol
 use Rattle.pg_text.specs.declared.reader.State.TheVariants.{Start, HeadWord, HeadNumber, Headed, Ready, Id, Player as Winner, Vertex}
-use Rattle.pg_text.specs.private.SolutionReads.{AreWinners, begun, Leads, part_after, Agrees, SaysLines}
-use Rattle.pg_text.specs.private.Machine.{symbol_of, run, lines_after, Read, Stops}
+use Rattle.pg_text.specs.private.SolutionReads.{AreWinners, begun, Leads, Agrees, SaysLines}
+use Rattle.pg_text.specs.private.Machine.{symbol_of, number_of, run, Read, Stops}
 use Rattle.pg_text.specs.private.Tables.{solution_table as table}
 use Rattle.pg_text.proofs.laws.ExclusiveFaults.{solution_begins}
-use Rattle.pg_text.proofs.reader.Machine.{word_cases, pushed, leads_in, goes_on, stops_at}
+use Rattle.pg_text.proofs.reader.Machine.{lines_after, word_cases, pushed, leads_in, goes_on, stops_at}
+
+-- the line begun, after a token that leads to the state
+abbrev part_after : State → Token → WrittenSolutionLine → WrittenSolutionLine
+part_after Id t l = record l { id = number_of t }
+part_after Winner t l = record l { winner = number_of t; choice = None }
+part_after Vertex t l = record l { choice = Some (number_of t) }
+part_after s t l = l
 
 -- every text leads to a state where it may end
 run-line : (l : WrittenSolutionLine) (more : List Token) → run table (Some Ready) (solution_line_tokens l ++ more) ≡ run table (Some Ready) more
@@ -85,7 +93,7 @@ other_symbol x0 x1 a b c = search (rules)
 winner_next : (s : State) (x : Symbol) → table s x ≡ Some Winner → s ≡ Id
 winner_next x0 x1 e = search (rules)
 
-digit_is : (n : ℕ) → n ≤ 1 → digit_of (player_of n) ≡ n
+digit_is : (n : ℕ) → n ≤ 1 → digit_of (of_digit n) ≡ n
 digit_is zero h = refl
 digit_is (suc zero) h = refl
 digit_is (suc (suc n)) h = absurd (omega arith)
@@ -98,7 +106,7 @@ are_winners [] = tt
 are_winners (l ∷ lines) = (owner_small l.winner, are_winners lines)
 
 -- a winner, where it is 0 or 1
-pub winner_is : {n value : ℕ} → value ≡ n → value < 2 → digit_of (player_of value) ≡ n
+pub winner_is : {n value : ℕ} → value ≡ n → value < 2 → digit_of (of_digit value) ≡ n
 winner_is {n} {value} e h = digit_is value (omega (arith, h)) ∙ e
 
 module _ {sound : Bool} {ts : List Token} {s : State} {Holds : List WrittenSolutionLine → WrittenSolutionLine → Type 0}

@@ -3,7 +3,7 @@ use Rattle.pg_text.proofs.Common.{◌≡◌, ℕ, zero, suc, ◌+◌, ◌<◌, B
 use Rattle.pg_text.proofs.Common.{refl, sym, ◌∙◌, ap, subst, arith, rules, ◌==◌, if◌then◌else◌, Option, Some, None, find, slice_get, option_or, Contains}
 use Rattle.pg_text.proofs.Common.{list_any, eqb-true, eq-eqb, false_from_ne_true, map-append, get_or-map, length-map, take-append-drop, slice_get-get_or}
 use Rattle.pg_text.proofs.Common.{list_any_at, Player, Even, digit_of, Graph, IsGame, id_of, no_vertex, first_repeated, members, SolutionTextFault}
-use Rattle.pg_text.proofs.Common.{SolutionLine, player_of, WrittenSolutionLine, SolutionRows, AreLinesOf, first_stranger, first_twice, first_missing, has_line}
+use Rattle.pg_text.proofs.Common.{SolutionLine, WrittenSolutionLine, SolutionRows, AreLinesOf, first_stranger, first_twice, first_missing, has_line}
 use Rattle.pg_text.proofs.Common.{row_of_line, HoldsLines, IsNamed, IsLookUpFaultOf, line_of}
 use Rattle.std.proofs.Common.{◌||◌, length-set, get_or-set_same, get_or-set_other}
 use Rattle.std.proofs.lemmas.List.{take-map, take_more}
@@ -14,6 +14,7 @@ use Rattle.pg_game.proofs.Masks.{members-set}
 use Rattle.pg_text.specs.private.SolutionTable.{IsStrangerOf}
 use Rattle.pg_text.proofs.solution_text.Identifiers.{number_at, named_is, stranger-append, line_named}
 use Rattle.pg_text.specs.declared.fault.SolutionTextFault.TheVariants as fault
+use Rattle.pg_game.specs.Player.{of_digit}
 
 abbrev among : List ℕ → ℕ → Bool
 among ns n = list_any (λ m. m == n) ns
@@ -154,7 +155,7 @@ IsChoice g (Some id) (Some v) = IsNamed g id v
 IsChoice g None (Some v) = ⊥
 IsChoice g (Some id) None = ⊥
 
-pub player_back : (p : Player) → p ≡ player_of (digit_of p)
+pub player_back : (p : Player) → p ≡ of_digit (digit_of p)
 player_back x0 = search (rules)
 
 -- a line whose identifiers are the game's says its row, and is no stranger

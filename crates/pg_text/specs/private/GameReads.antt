@@ -2,17 +2,15 @@
 use Rattle.std.specs.Prelude.{ℕ, ◌≡◌, ◌<◌, Bool, List, [], ◌∷◌, ◌++◌, length, map, codes, Option, Some, None}
 use Rattle.std.specs.List.{AllByRecursion}
 use Rattle.pg_game.specs.declared.player.Player.{Player}
+use Rattle.pg_game.specs.Player.{of_digit}
 use Rattle.pg_game.specs.declared.specification.Spec.{Spec}
 use Rattle.pg_text.specs.declared.game_text.GameText.{GameText}
 use Rattle.pg_text.specs.declared.reader.State.{State}
 use Rattle.pg_text.specs.declared.reader.State.TheVariants as state
-use Rattle.pg_text.specs.GameText.{WrittenGameLine, IsGameText, player_of, spec_of, headed, game_tokens, separated, name_tokens}
-use Rattle.pg_text.specs.Token.{Token, Number, Word, Name, Comma}
-use Rattle.pg_text.specs.private.Machine.{Read, number_of}
+use Rattle.pg_text.specs.GameText.{WrittenGameLine, IsGameText, spec_of, headed, game_tokens, separated, name_tokens}
+use Rattle.pg_text.specs.Token.{Token, Number, Word, Comma}
+use Rattle.pg_text.specs.private.Machine.{Read}
 use Rattle.pg_text.specs.private.Tables.{game_table}
-
-abbrev pub line : ℕ → ℕ → ℕ → List ℕ → Option (List ℕ) → WrittenGameLine
-line id priority owner successors name = record { id = id; priority = priority; owner = owner; successors = successors; name = name }
 
 abbrev pub AreNonempty : List WrittenGameLine → Type 0
 AreNonempty lines = AllByRecursion (λ l. 0 < length l.successors) lines
@@ -61,22 +59,12 @@ Leads state.Started ts lines l = IsWhole ts lines
 Leads state.Ready ts lines l = IsGameText ts lines
 Leads s ts lines l = (done : List Token) × IsWhole done lines × IsBegun s l × (ts ≡ done ++ begun s l)
 
--- the line begun, after a token that leads to the state
-abbrev pub part_after : State → Token → WrittenGameLine → WrittenGameLine
-part_after state.Id t l = record l { id = number_of t }
-part_after state.Priority t l = record l { priority = number_of t }
-part_after state.Player t l = record l { owner = number_of t; successors = []; name = None }
-part_after state.Vertex t l = record l { successors = l.successors ++ number_of t ∷ [] }
-part_after state.Named (Name bytes) l = record l { name = Some bytes }
-part_after state.Ready t l = record l { successors = []; name = None }
-part_after s t l = l
-
 -- the builder holds these lines and the line begun, and all owners are 0 or 1
 pub record Agrees (lines : List WrittenGameLine) (l : WrittenGameLine) (specs : List Spec) (id priority : ℕ) (owner : Player) (successors : List ℕ) : Type 0 where
   pub lines_are : AreLines specs lines
   pub id_is : id ≡ l.id
   pub priority_is : priority ≡ l.priority
-  pub owner_is : owner ≡ player_of l.owner
+  pub owner_is : owner ≡ of_digit l.owner
   pub small : l.owner < 2
   pub successors_are : successors ≡ l.successors
 

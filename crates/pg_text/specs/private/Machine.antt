@@ -22,10 +22,7 @@ symbol_of Semicolon = symbol.Semicolon
 -- the value of a number, and 0 of any other token
 abbrev pub number_of : Token → ℕ
 number_of (Number n) = n
-number_of (Word letters) = 0
-number_of (Name bytes) = 0
-number_of Comma = 0
-number_of Semicolon = 0
+number_of _ = 0
 
 abbrev pub Table : Type 0
 Table = State → Symbol → Option State
@@ -44,11 +41,6 @@ TakenOr false A B = B
 pub record Stops (BeginsText : List Token → Type 0) (ts : List Token) (t : Token) : Type 0 where
   pub begins : BeginsText ts
   pub stops : BeginsText (ts ++ t ∷ []) → ⊥
-
--- the whole lines, after a token that leads to the state
-abbrev pub lines_after : {L : Type 0} → State → L → List L → List L
-lines_after state.Ready l lines = lines ++ l ∷ []
-lines_after s l lines = lines
 
 -- The tokens lead to the state, by some whole lines and a line begun. Where the flag is true, these are what is held
 pub record Read {L : Type 0} (table : Table) (Leads : State → List Token → List L → L → Type 0) (sound : Bool) (ts : List Token) (s : State)

@@ -1,5 +1,5 @@
 -- What is known of a solution text of which some tokens were read.
-use Rattle.std.specs.Prelude.{ℕ, ◌≡◌, ◌<◌, Bool, List, [], ◌∷◌, ◌++◌, map, codes, Option, Some, None}
+use Rattle.std.specs.Prelude.{ℕ, ◌≡◌, ◌<◌, Bool, List, [], ◌∷◌, ◌++◌, map, codes, Option, None}
 use Rattle.std.specs.List.{AllByRecursion}
 use Rattle.pg_game.specs.Player.{digit_of}
 use Rattle.pg_text.specs.declared.reader.State.{State}
@@ -8,7 +8,7 @@ use Rattle.pg_text.specs.declared.solution_text.SolutionLine.{SolutionLine}
 use Rattle.pg_text.specs.declared.solution_text.SolutionText.{SolutionText}
 use Rattle.pg_text.specs.Token.{Token, Number, Word}
 use Rattle.pg_text.specs.SolutionText.{WrittenSolutionLine, IsSolutionText, choice_tokens}
-use Rattle.pg_text.specs.private.Machine.{Read, number_of}
+use Rattle.pg_text.specs.private.Machine.{Read}
 use Rattle.pg_text.specs.private.Tables.{solution_table}
 
 abbrev pub line_of : SolutionLine → WrittenSolutionLine
@@ -35,13 +35,6 @@ Leads state.HeadNumber ts lines l = (m : ℕ) × (ts ≡ Word (codes "paritysol"
 Leads state.Headed ts lines l = IsSolutionText ts lines
 Leads state.Ready ts lines l = IsSolutionText ts lines
 Leads s ts lines l = (done : List Token) × IsSolutionText done lines × IsBegun s l × (ts ≡ done ++ begun s l)
-
--- the line begun, after a token that leads to the state
-abbrev pub part_after : State → Token → WrittenSolutionLine → WrittenSolutionLine
-part_after state.Id t l = record l { id = number_of t }
-part_after state.Player t l = record l { winner = number_of t; choice = None }
-part_after state.Vertex t l = record l { choice = Some (number_of t) }
-part_after s t l = l
 
 -- the lines and the line begun are these
 pub record Agrees (lines : List WrittenSolutionLine) (l : WrittenSolutionLine) (held : List WrittenSolutionLine) (id winner : ℕ) (choice : Option ℕ) : Type 0 where

@@ -33,13 +33,7 @@ pub record IsNamed (g : Graph) (id v : ℕ) : Type 0 where
 -- the line names a stranger, and this is the first
 abbrev pub IsStrangerOf : Graph → WrittenSolutionLine → SolutionTextFault → Type 0
 IsStrangerOf g l (fault.Stranger id) = first_stranger g (l ∷ []) ≡ Some id
-IsStrangerOf g l (fault.Lexical at) = ⊥
-IsStrangerOf g l (fault.Syntax at) = ⊥
-IsStrangerOf g l (fault.Number at) = ⊥
-IsStrangerOf g l (fault.Winner at) = ⊥
-IsStrangerOf g l (fault.Twice id) = ⊥
-IsStrangerOf g l (fault.Missing id) = ⊥
-IsStrangerOf g l fault.Memory = ⊥
+IsStrangerOf g l _ = ⊥
 
 -- why the lines have no rows
 abbrev pub IsRowFaultOf : Graph → List WrittenSolutionLine → SolutionTextFault → Type 0
@@ -47,29 +41,15 @@ IsRowFaultOf g lines (fault.Stranger id) = first_stranger g lines ≡ Some id
 IsRowFaultOf g lines (fault.Twice id) = (first_stranger g lines ≡ None) × (first_twice lines ≡ Some id)
 IsRowFaultOf g lines (fault.Missing id) = (first_stranger g lines ≡ None) × (first_twice lines ≡ None) × (first_missing g lines ≡ Some id)
 IsRowFaultOf g lines fault.Memory = Unit {0}
-IsRowFaultOf g lines (fault.Lexical at) = ⊥
-IsRowFaultOf g lines (fault.Syntax at) = ⊥
-IsRowFaultOf g lines (fault.Number at) = ⊥
-IsRowFaultOf g lines (fault.Winner at) = ⊥
+IsRowFaultOf g lines _ = ⊥
 
 -- why lines have no rows, before the search for vertices without a line
 abbrev pub IsLookUpFaultOf : Graph → List WrittenSolutionLine → SolutionTextFault → Type 0
 IsLookUpFaultOf g lines (fault.Stranger id) = first_stranger g lines ≡ Some id
 IsLookUpFaultOf g lines fault.Memory = Unit {0}
-IsLookUpFaultOf g lines (fault.Twice id) = ⊥
-IsLookUpFaultOf g lines (fault.Missing id) = ⊥
-IsLookUpFaultOf g lines (fault.Lexical at) = ⊥
-IsLookUpFaultOf g lines (fault.Syntax at) = ⊥
-IsLookUpFaultOf g lines (fault.Number at) = ⊥
-IsLookUpFaultOf g lines (fault.Winner at) = ⊥
+IsLookUpFaultOf g lines _ = ⊥
 
 -- why the lines are none of what is known
 abbrev pub IsKnownRowFaultOf : Graph → List WrittenSolutionLine → SolutionTextFault → Type 0
-IsKnownRowFaultOf g lines (fault.Stranger id) = first_stranger g lines ≡ Some id
-IsKnownRowFaultOf g lines (fault.Twice id) = (first_stranger g lines ≡ None) × (first_twice lines ≡ Some id)
-IsKnownRowFaultOf g lines fault.Memory = Unit {0}
 IsKnownRowFaultOf g lines (fault.Missing id) = ⊥
-IsKnownRowFaultOf g lines (fault.Lexical at) = ⊥
-IsKnownRowFaultOf g lines (fault.Syntax at) = ⊥
-IsKnownRowFaultOf g lines (fault.Number at) = ⊥
-IsKnownRowFaultOf g lines (fault.Winner at) = ⊥
+IsKnownRowFaultOf g lines fault = IsRowFaultOf g lines fault

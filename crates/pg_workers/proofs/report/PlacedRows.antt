@@ -3,7 +3,7 @@ use Rattle.pg_workers.proofs.Common.{rules, ◌≡◌, ◌≢◌, ℕ, zero, suc
 use Rattle.pg_workers.proofs.Common.{set, refl, sym, ap, ◌∙◌, subst, arith, length-set, sum_by, slice_get, Some, common_steps, nat_tests, get_or_default, times}
 use Rattle.pg_workers.proofs.Common.{take_more, take-append-drop, sum_by-append, sum_by-cons, sum_by-set, sum_by_more, sum_by_more_le, none-some, same_Some}
 use Rattle.pg_workers.proofs.Common.{slice_get_within, slice_get-get_or, get_or_from_slice_get, ReportRow, once_below, AreNumbered, IsDrawnRow, IsReport}
-use Rattle.pg_workers.proofs.Common.{blank_row, settled_in, AreBlank, AreOfPrefix, AreNotedRows, HasPlaces, jobs_in, rows_in, how_many_of_job}
+use Rattle.pg_workers.proofs.Common.{blank_row, settled_in, AreBlank, AreOfPrefix, AreNotedRows, HasFreePlaces, jobs_in, rows_in, how_many_of_job}
 use Rattle.pg_workers.proofs.jobs.DrawnNumbers.{flat_map-push}
 use Rattle.pg_workers.proofs.Counts.{sum_by-of_map}
 use Rattle.pg_workers.proofs.report.Rows.{at_job, get_set_same, get_set_other, get_append, counted, found_row, rows_of-append, rows_of-rows_in}
@@ -58,12 +58,12 @@ next_free rows i r lt is once =
 
 -- the row at i, where the report's rows of these jobs were free, after the rows before it were put in their places
 pub record IsNext (before now rows : List ReportRow) (i : ℕ) (r : ReportRow) : Type 0 where
-  pub places : HasPlaces before rows
+  pub places : HasFreePlaces before rows
   pub within : i < length rows
   pub here : r ≡ get_or rows i r
   pub placed : AreNotedRows before now (take i rows)
 
-pub next_row : {before now rows : List ReportRow} (i : ℕ) → HasPlaces before rows → i < length rows → AreNotedRows before now (take i rows)
+pub next_row : {before now rows : List ReportRow} (i : ℕ) → HasFreePlaces before rows → i < length rows → AreNotedRows before now (take i rows)
     → IsNext before now rows i (get_or rows i (blank_row 0))
 next_row {rows = rows} i places within placed =
     record { places = places; within = within; here = get_or_default rows i (blank_row 0) (get_or rows i (blank_row 0)) within; placed = placed }
@@ -99,7 +99,7 @@ below_once j n = grind (arith, nat_tests)
 -- the rows of the next worker have free places in the report
 pub has_places : (n : ℕ) (before now : List ReportRow) (all : List (Vec ReportRow Global)) (i : ℕ) (v : Vec ReportRow Global) → AreBlank before
     → n ≤ length before → AreOfPrefix n (rows_in all) → i < length all → v ≡ get_or all i v → AreNotedRows before now (rows_in (take i all))
-    → HasPlaces now v.items
+    → HasFreePlaces now v.items
 has_places n before now all i v blank few prefix lt is p = record {
   once = λ j. let s = share j in let f = prefix j in let o = below_once j n in omega arith;
   free = λ j some.

@@ -2,8 +2,12 @@
 use Rattle.pg_workers.proofs.Common.{rules, ◌≡◌, ◌≢◌, ℕ, zero, suc, ◌+◌, ◌<◌, ◌⊎◌, inl, inr, Bool, true, false, List, [], ◌∷◌, ◌++◌, All, Vec, Global, length}
 use Rattle.pg_workers.proofs.Common.{take, set, refl, sym, ap, ◌∙◌, subst, arith, common_steps, ◌==◌, cond, sum_by, slice_get, Some, times}
 use Rattle.pg_workers.proofs.Common.{take-append_seam, nat_tests, map-append, sum_by-cons, sum_by-append, none-some, same_Some, slice_get_within, ReportRow}
-use Rattle.pg_workers.proofs.Common.{get_or_from_slice_get, IsInOrder, blank_row, settled_in, AreBlank, AreIdle, jobs_in}
+use Rattle.pg_workers.proofs.Common.{get_or_from_slice_get, IsInOrder, blank_row, settled_in, AreBlank, jobs_in}
 use Rattle.pg_workers.proofs.Common.{rows_in, how_many_of_job}
+
+-- the first n rows settled nothing
+abbrev pub AreIdle : ℕ → List ReportRow → Type 0
+AreIdle n rows = (k : ℕ) (r : ReportRow) → slice_get rows k ≡ Some r → k < n → r.settled ≡ 0
 
 -- rows that settled nothing add up to nothing
 pub none_settled : (rows : List ReportRow) → AreIdle (length rows) rows → settled_in rows ≡ 0

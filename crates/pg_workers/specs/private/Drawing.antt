@@ -5,6 +5,7 @@ use lib.ListN.{get_elem?}
 use Rattle.atomic_table.specs.Table.{State, Me, Step}
 use Rattle.pg_workers.specs.declared.jobs.Drawer.{Drawer}
 use Rattle.pg_workers.specs.Counting.{AreFair}
+use Rattle.pg_workers.specs.Tickets.{Series}
 
 -- the view of a seat: the total, the number of its tickets, the number of these that found no job left,
 -- and the numbers that they drew
@@ -49,3 +50,7 @@ both_drawers v w = drawer v.total (v.tickets + w.tickets) (v.told_none + w.told_
 
 abbrev pub spent_drawer : Drawer
 spent_drawer = drawer 0 0 0 []
+
+-- the series of a type that has no jobs
+abbrev pub no_series : Series
+no_series = record { table = record { words = 0; slots = 0; views_name = 0; atom = 0; block = 0; offset = 0; slot_names = [] }; total = 0 }

@@ -38,11 +38,7 @@ IsKnownFault g journal known p (fault.Known q e) = (q ≡ p) × IsLawful g journ
 -- memory is never wrapped
 abbrev pub fault_of : Player → Refusal → SolveFault
 fault_of p refusal.Memory = fault.Memory
-fault_of p (refusal.Claim e) = fault.Known p (refusal.Claim e)
-fault_of p (refusal.Foreign v) = fault.Known p (refusal.Foreign v)
-fault_of p (refusal.Lost v) = fault.Known p (refusal.Lost v)
-fault_of p refusal.Stale = fault.Known p refusal.Stale
-fault_of p (refusal.Open v w) = fault.Known p (refusal.Open v w)
+fault_of p e = fault.Known p e
 
 -- both known sets are regions, and only what they attract is settled: by an entry of worker 0 for Even's, and then one for Odd's
 pub record HasKnown (g : Graph) (known : KnownRows) (journal : Journal) : Type 0 where

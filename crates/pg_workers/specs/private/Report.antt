@@ -11,10 +11,6 @@ use Rattle.pg_workers.specs.Report.{AreCounts, IsInOrder, IsReport, blank_row}
 abbrev pub AreBlank : List ReportRow → Type 0
 AreBlank report = (k : ℕ) (r : ReportRow) → slice_get report k ≡ Some r → r ≡ blank_row k
 
--- the first n rows settled nothing
-abbrev pub AreIdle : ℕ → List ReportRow → Type 0
-AreIdle n rows = (k : ℕ) (r : ReportRow) → slice_get rows k ≡ Some r → k < n → r.settled ≡ 0
-
 -- the numbers of the rows' jobs
 abbrev pub jobs_in : List ReportRow → List ℕ
 jobs_in rows = map (λ r. r.job) rows
@@ -32,7 +28,7 @@ abbrev pub AreOfPrefix : ℕ → List ReportRow → Type 0
 AreOfPrefix n rows = (j : ℕ) → how_many_of_job j rows ≡ once_below j n
 
 -- no two rows are of one job, and the report's row of each is still that of a job that no worker drew
-pub record HasPlaces (report rows : List ReportRow) : Type 0 where
+pub record HasFreePlaces (report rows : List ReportRow) : Type 0 where
   pub once : (j : ℕ) → how_many_of_job j rows ≤ 1
   pub free : (j : ℕ) → 0 < how_many_of_job j rows → slice_get report j ≡ Some (blank_row j)
 

@@ -1,6 +1,6 @@
 -- What the reader of command lines makes of a command and of words.
 use Rattle.std.proofs.Common.{rules, refl, sym, ap, ap₂, subst, ◌∙◌, inl, inr, arith, ◌≡◌, ◌≤◌, ◌<◌, ◌^◌, ◌||◌, ◌++◌}
-use Rattle.std.proofs.Common.{ℕ, Bool, true, false, List, [], ◌∷◌, Option, Some, None, codes, slice_index, drop, length, map, Bor}
+use Rattle.std.proofs.Common.{ℕ, Bool, true, false, List, [], ◌∷◌, Option, Some, None, codes, slice_index, length, map, Bor}
 use Rattle.std.specs.Prelude.{is_some, Ok, Err, Result, IfOk, ◌⊎◌}
 use Rattle.std.specs.Str.Parse.{ParsesUnsigned, ExplainsUnsignedError, HasUnsignedDigitsIfOk}
 use Rattle.std.specs.declared.num.ParseIntError.{ParseIntError}
@@ -82,7 +82,7 @@ some_path f name path is path_is = go path path_is
     go None h = let bad : true ≡ false = sym entry ∙ h.1 in absurd (cc bad)
     go (Some p) h = (p, h.0)
 
--- what is asked for under the name `solve` or `trace` has its values
+-- what is asked for under the name `solve` or `verify` has its values
 other_name : {A : Type 0} (x y : ℕ) (xs ys : List ℕ) → x ∷ xs ≡ y ∷ ys → (x ≡ y → ⊥) → A
 other_name x y xs ys e differ = absurd (differ (ap (λ (l : List ℕ). slice_index l 0) e))
 
@@ -93,33 +93,22 @@ pub record HasNumber (name : Text) (rows : List Row) (least most : ℕ) : Type 0
   pub low : least ≤ number
   pub high : number ≤ most
 
-pub record IsSolving (rows : List Row) : Type 0 where
-  pub workers : HasNumber (codes "workers") rows 1 64
-  pub bound : HasNumber (codes "bound") rows 0 8
-  pub known : (path : Option Text) × IsPath (codes "known") rows path
-  pub game : (path : Option Text) × IsPath (codes "GAME") rows path
-
-pub solving : (rows : List Row) (asked : Asked) → IsRead (Some (codes "solve", rows)) asked → IsInRange asked → IsSolving rows
-solving rows (Solve w b f k g) is range = record {
-  workers = record { number = w; given = is.1.workers_are; low = range.0; high = range.1 };
-  bound = record { number = b; given = is.1.bound_is; low = omega arith; high = range.2 };
-  known = (_, is.1.known_is);
-  game = (_, is.1.game_is);
-}
+pub solving : (rows : List Row) (asked : Asked) → IsRead (Some (codes "solve", rows)) asked → IsInRange asked → HasNumber (codes "bound") rows 0 8
+solving rows (Solve w b f k g) is range = record { number = b; given = is.1.bound_is; low = omega arith; high = range.2 }
 solving rows (Verify g s) is range = other_name 115 118 _ _ is.0 (λ e. omega (arith, e))
 solving rows (Tidy g) is range = other_name 115 116 _ _ is.0 (λ e. omega (arith, e))
 solving rows (Trace w g) is range = other_name 115 116 _ _ is.0 (λ e. omega (arith, e))
 solving rows Joined is range = absurd is
 solving rows (Help t) is range = absurd is
 
-pub tracing : (rows : List Row) (asked : Asked) → IsRead (Some (codes "trace", rows)) asked → IsInRange asked
-    → HasNumber (codes "workers") rows 1 64
-tracing rows (Trace w g) is range = record { number = w; given = is.1; low = range.0; high = range.1 }
-tracing rows (Verify g s) is range = other_name 116 118 _ _ is.0 (λ e. omega (arith, e))
-tracing rows (Tidy g) is range = other_name 114 105 _ _ (ap (λ (l : List ℕ). drop 1 l) is.0) (λ e. omega (arith, e))
-tracing rows (Solve w b f k g) is range = other_name 116 115 _ _ is.0 (λ e. omega (arith, e))
-tracing rows Joined is range = absurd is
-tracing rows (Help t) is range = absurd is
+pub verifying : (rows : List Row) (asked : Asked) → IsRead (Some (codes "verify", rows)) asked
+    → (path : Text) × (first_of (codes "SOLUTION") rows ≡ Some path)
+verifying rows (Verify g s) is = (_, is.2)
+verifying rows (Solve w b f k g) is = other_name 118 115 _ _ is.0 (λ e. omega (arith, e))
+verifying rows (Tidy g) is = other_name 118 116 _ _ is.0 (λ e. omega (arith, e))
+verifying rows (Trace w g) is = other_name 118 116 _ _ is.0 (λ e. omega (arith, e))
+verifying rows Joined is = absurd is
+verifying rows (Help t) is = absurd is
 
 simple : is_simple program ≡ true
 unfolding clap_on_literals

@@ -2,18 +2,12 @@
 use Rattle.pgboard.proofs.Common.{rules, ◌≡◌, ℕ, ◌+◌, ◌-◌, List, ◌++◌, length, take, drop, Option, ◌∙◌, subst, arith, append_assoc, take_rest, take-take}
 use Rattle.pgboard.proofs.Common.{drop-take, Consumes, Appends}
 use Rattle.std.proofs.Common.{take-append-drop}
-
--- two reads, one after the other
-pub read_more : (a b c : Option (List ℕ)) (xs ys : List ℕ) → Consumes a b xs → Consumes b c ys → Consumes a c (xs ++ ys)
-read_more a b c xs ys p q = search (rules, append_assoc)
-
-both_written : (a b c : Option (List ℕ)) (xs ys : List ℕ) → Appends a b xs → Appends b c ys → Appends a c (xs ++ ys)
-both_written a b c xs ys p q = search (rules, append_assoc)
+use Rattle.std.proofs.KnownBytes.{Appends-trans, Consumes-trans}
 
 -- one more piece was taken, of n bytes
 pub wrote_more : (a b c : Option (List ℕ)) (all prefix rest : List ℕ) (n : ℕ) → all ≡ prefix ++ rest → Appends a b prefix
     → Appends b c (take n rest) → (more : List ℕ) × (all ≡ more ++ take (length rest - n) (drop n rest)) × Appends a c more
-wrote_more a b c all prefix rest n e p q = search (rules, take_rest, take-append-drop, append_assoc, both_written)
+wrote_more a b c all prefix rest n e p q = search (rules, take_rest, take-append-drop, append_assoc, Appends-trans)
 
 -- what is filled grows by what was read after it
 pub filled_more : (a b c : Option (List ℕ)) (xs ys : List ℕ) (f n : ℕ) → take f ys ≡ take f xs → Consumes a b (take f xs)
@@ -21,4 +15,4 @@ pub filled_more : (a b c : Option (List ℕ)) (xs ys : List ℕ) (f n : ℕ) →
 filled_more a b c xs ys f n prefix before read =
     let earlier : take f (take (f + n) ys) ≡ take f xs = take-take f (f + n) ys (omega arith) ∙ prefix in
     let whole : take f xs ++ take n (drop f ys) ≡ take (f + n) ys = rw (← earlier, ← drop-take f n ys) (take-append-drop f (take (f + n) ys)) in
-    subst (Consumes a c) whole (read_more a b c _ _ before read)
+    subst (Consumes a c) whole (Consumes-trans a b c _ _ before read)

@@ -6,13 +6,13 @@ use Rattle.pgboard.proofs.Common.{Err, IsErrOf}
 use Rattle.std.specs.Borrow.{MutBor}
 use Rattle.pgboard.specs.KnownSource.{IsReadKnown, left_in}
 use Rattle.pgboard.specs.Refused.{IsNotKnown}
-use Rattle.pgboard.specs.private.Refused.{IsUnsolved}
+use Rattle.pgboard.specs.private.Run.{IsNotSolved}
 use Rattle.pgboard.specs.declared.fault.RunFault.TheVariants as fault
 use Rattle.pgboard.specs.Run.{IsGameFault}
 use Rattle.pgboard.proofs.solve.EmptyText.{says_nothing}
 use Rattle.pgboard.proofs.solve.NothingKnown.{nothing_kept, nothing_regions, only_memory}
 
-pub not_solved : (known : Option (List ℕ)) (g : Graph) (rows : KnownRows) → IsReadKnown g known rows → (e : RunFault) → IsUnsolved g rows e
+pub not_solved : (known : Option (List ℕ)) (g : Graph) (rows : KnownRows) → IsReadKnown g known rows → (e : RunFault) → IsNotSolved g rows e
     → IsNotKnown g known e
 not_solved None g rows is (fault.Known f) h = tt
 not_solved (Some text) g rows is (fault.Known f) h = (is.0, rows, is.1, h)
@@ -62,13 +62,13 @@ solved_from left (Some source) g known taken game games winners out is regions w
 
 -- why such a run has no solution
 pub unsolved_from : {K : Type 0} (left : K → Option (List ℕ)) (source : Option (MutBor K)) (g : Graph) (known : KnownRows) → IsTaken left g source known
-    → IsGame g → (e : RunFault) → IsUnsolved g known e → IsNotKnown g (left_in left source) e
+    → IsGame g → (e : RunFault) → IsNotSolved g known e → IsNotKnown g (left_in left source) e
 unsolved_from left None g known taken game e h = subst (λ (f : RunFault). IsNotKnown g (Some []) f) (sym (only_memory g game known taken e h)) tt
 unsolved_from left (Some source) g known taken game e h = not_solved (left source.now) g known taken e h
 
 -- without a source the reason is refused memory
 pub unsolved_alone : {K : Type 0} (left : K → Option (List ℕ)) (source : Option (MutBor K)) (g : Graph) (known : KnownRows) → IsTaken left g source known
-    → IsGame g → (e : RunFault) → IsUnsolved g known e → source ≡ None → (games : Option (List ℕ)) → IsNoGame games e
+    → IsGame g → (e : RunFault) → IsNotSolved g known e → source ≡ None → (games : Option (List ℕ)) → IsNoGame games e
 unsolved_alone left None g known taken game e h none games = subst (λ (f : RunFault). IsNoGame games f) (sym (only_memory g game known taken e h)) tt
 unsolved_alone left (Some source) g known taken game e h none games = absurd (cc none)
 
@@ -88,7 +88,7 @@ no_game_fault g known fault.Memory h is = is
 no_game_fault g known fault.Write h is = is
 
 -- a game is not unsolved because of a read
-pub not_read : {A : Type 0} (g : Graph) (rows : KnownRows) (e : RunFault) → IsUnsolved g rows e → IsErrOf {T = A} (Err e) fault.Read → ⊥
+pub not_read : {A : Type 0} (g : Graph) (rows : KnownRows) (e : RunFault) → IsNotSolved g rows e → IsErrOf {T = A} (Err e) fault.Read → ⊥
 not_read g rows (fault.Game f) h is = h
 not_read g rows (fault.Solution f) h is = h
 not_read g rows (fault.Known f) h is = cc is

@@ -8,7 +8,7 @@ use Rattle.pg_workers.proofs.KnownSets.{empty_region, none_attracted}
 use Rattle.pg_workers.specs.KnownRegions.{KeepsKnown}
 use Rattle.pg_workers.specs.declared.known.SolveFault.TheVariants as solving
 use Rattle.pgboard.specs.declared.fault.RunFault.TheVariants as fault
-use Rattle.pgboard.specs.private.Refused.{IsUnsolved}
+use Rattle.pgboard.specs.private.Run.{IsNotSolved}
 
 nothing_at : (n v : ℕ) → known_at (replicate n None) v ≡ None
 nothing_at zero v = refl
@@ -38,9 +38,9 @@ module _ (g : Graph) (game : IsGame g) (known : KnownRows) (nothing : known ≡ 
   never_refused p e post = post.refused.no_region (empty_region g game known p (not_known p))
 
   -- only refused memory keeps such a game from being solved
-  pub only_memory : (e : RunFault) → IsUnsolved g known e → e ≡ fault.Memory
+  pub only_memory : (e : RunFault) → IsNotSolved g known e → e ≡ fault.Memory
   only_memory fault.Memory h = refl
-  only_memory (fault.Known f) (why, (p, reason, refused, names), named) = absurd (never_refused p reason refused)
+  only_memory (fault.Known f) (p, reason, refused, names) = absurd (never_refused p reason refused)
   only_memory fault.Read h = absurd h
   only_memory fault.TooLong h = absurd h
   only_memory (fault.Game f) h = absurd h

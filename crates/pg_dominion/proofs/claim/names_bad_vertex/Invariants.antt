@@ -1,5 +1,5 @@
 use Rattle.pg_dominion.proofs.Common.{◌≡◌, ◌||◌, drop, list_any, is_bad}
-use Rattle.pg_dominion.specs.private.Shape.{AreRightBefore}
+use Rattle.pg_dominion.proofs.Shape.{AreRightBefore}
 use Rattle.pg_dominion.proofs.claim.names_bad_vertex.Given as goal
 
 abbrev pub invariant-rows : goal.invariant-rows

@@ -1,4 +1,4 @@
-use Rattle.pg_dominion.proofs.Common.{inl, inr, arith, cases_lt, IsOnBadCycle}
+use Rattle.pg_dominion.proofs.Common.{inl, inr, cases_lt, IsOnBadCycle}
 use Rattle.pg_dominion.proofs.SearchSteps.{OnTop-from_reaches, not_below}
 use Rattle.pg_dominion.proofs.cycles.first_by_ranking.Goals as goal
 
@@ -10,6 +10,6 @@ returns-then-branch c =
       has = (cc (c.has.ensures, c.if-not-has.false), OnTop-from_reaches k limit (c.in_ok-leads_back.ensures c.if-branch.true));
       least = λ u w. not_below (IsOnBadCycle k) limit u (λ v l. elim (cases_lt v c.args.from) [
         | inl b ↦ c.requires.none v b
-        | inr b ↦ c.in_ok-is_ranked.ensures c.if-not-branch.false v (omega (arith, c.if-ranking-from.false, b)) l
+        | inr b ↦ c.in_ok-is_ranked.ensures c.if-not-branch.false v b l
       ]) w;
     }

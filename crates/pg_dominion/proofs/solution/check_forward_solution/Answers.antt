@@ -1,7 +1,7 @@
 use Rattle.pg_dominion.proofs.Common.{◌≡◌, ◌↔◌, ℕ, length, sym, ◌∙◌, ap, subst, StrategyGraph, ltb-true, Graph, IsGame, NoneHas, IsLeast, edge_inside, Leaves, IsOnBadCycle}
-use Rattle.pg_text.specs.Verdict.{IsFirstLeaving}
 use Rattle.pg_text.proofs.Verdict.{solution_from_no_fault}
 use Rattle.pg_text.specs.Solution.{SolutionRows}
+use Rattle.pg_game.specs.Least.{IsFirstEdge}
 use Rattle.pg_text.specs.Verdict.{IsOnBadWalk}
 use Rattle.pg_dominion.specs.private.JointStrategy.{IsJointStrategy}
 use Rattle.pg_dominion.proofs.solution.KeptEdges.{bad_cycle_is_on_bad_walk}
@@ -57,7 +57,7 @@ returns-in-Some-first_bad_choice-clause-fails c =
 pub returns-in-Some-first_leaving-clause-fails : goal.returns-in-Some-first_leaving-clause-fails
 returns-in-Some-first_leaving-clause-fails c =
     let e = c.in-Some-first_leaving in
-    let first = subst (λ (g : Graph). IsFirstLeaving g c.args.solution.now.rows e.v e.w) c.in_ok-kept.ensures.game e.ensures.first in record {
+    let first = subst (λ (g : Graph). IsFirstEdge (Leaves g c.args.solution.now.rows) e.v e.w) c.in_ok-kept.ensures.game e.ensures.first in record {
       v = e.v;
       w = e.w;
       id_is = c.id-from.ensures;

@@ -14,12 +14,12 @@ pub returns-in-Found : goal.returns-in-Found
 returns-in-Found c =
     let i = c.args.inside.now in
     let ws = c.args.seeds.now in
-    let h = c.in_ok-claim.ensures in
+    let h = rw c.in-Found.is at c.in_ok-claim.ensures in
     let o = c.all_of-in-Found in
     let x = c.in-Found.claim in
-    let small = subst (λ (b : ℕ). IsSmall i.graph (members i.mask) c.args.player ws b x.rows) c.min.ensures (rw c.in-Found.is at h.found) in
+    let small = subst (λ (b : ℕ). IsSmall i.graph (members i.mask) c.args.player ws b x.rows) c.min.ensures h.1 in
     told i.graph (members i.mask) c.args.player ws (min c.args.bound 8) c.args.budget o.result (x ∷ []) false o.ensures.claims o.ensures.gave_up
-    (rw c.in-Found.is at h.player, small)
+    (h.0, small)
 
 pub returns-in-Nothing : goal.returns-in-Nothing
 returns-in-Nothing c =
@@ -27,8 +27,8 @@ returns-in-Nothing c =
     let ws = c.args.seeds.now in
     let o = c.all_of-in-Nothing in
     let none = subst (λ (b : ℕ). (rows : ClaimRows) → IsSmall i.graph (members i.mask) c.args.player ws b rows → ⊥) c.min.ensures
-    (rw c.in-Nothing.is at c.in_ok-claim.ensures.nothing) in
+    (rw c.in-Nothing.is at c.in_ok-claim.ensures) in
     told i.graph (members i.mask) c.args.player ws (min c.args.bound 8) c.args.budget o.result [] false o.ensures.claims o.ensures.gave_up none
 
 pub returns-in-GaveUp : goal.returns-in-GaveUp
-returns-in-GaveUp c = rw (c.new.ensures.items, ← c.min.ensures) (rw c.in-GaveUp.is at c.in_ok-claim.ensures.gave_up)
+returns-in-GaveUp c = rw (c.new.ensures.items, ← c.min.ensures) (rw c.in-GaveUp.is at c.in_ok-claim.ensures)

@@ -15,7 +15,7 @@ returns c =
     let part = c.requires.part in
     let rows = c.args.rows.items in
     let n = positive (vec_len c.args.rows) (length rows) (cc (c.is_empty.ensures, c.if-is_empty.false)) (omega (arith, c.args.rows.ok.0)) in
-    rw (c.claim_of.ensures.player, c.claim_of.ensures.rows) record {
+    rw (c.new.ensures.player, c.new.ensures.rows) record {
       player = refl;
       vertices = exactly_loops i.graph i.mask p part rows c.requires.rows;
       choices = chooses_itself i.graph i.mask p part rows c.requires.rows;

@@ -1,5 +1,5 @@
 use Rattle.pg_finders.proofs.Common.{members}
-use Rattle.pg_finders.specs.private.solitaire.Solitaire.{SingleSoFar}
+use Rattle.pg_finders.proofs.solitaire.ForcedPlayer.{SingleSoFar}
 use Rattle.pg_finders.proofs.solitaire.single_successor.Given as goal
 
 abbrev pub invariant-loop-w : goal.invariant-loop-w

@@ -10,7 +10,7 @@ use Rattle.pg_finders.specs.declared.recursion.subgame.Plan.{Plan}
 use Rattle.pg_finders.specs.private.recursion.Listed.{listed, Once, Apart}
 use Rattle.pg_finders.specs.private.recursion.Plans.{winners_of, choices_of, SameAt, SameOutside, IsGiven}
 use Rattle.pg_finders.specs.private.recursion.Settled.{settled_of, IsPlaced}
-use Rattle.pg_finders.specs.private.recursion.Places.{stands}
+use Rattle.pg_finders.specs.private.recursion.Places.{is_listed_from}
 use Rattle.pg_finders.specs.private.Solved.{IsAttracted}
 use Rattle.pg_finders.specs.private.recursion.TakenVertices.{active_of, HasSizes, HasTaken, AttractsNoActive, place}
 
@@ -19,7 +19,7 @@ abbrev pub rest_of : Parts → List ℕ
 rest_of x = drop x.from (settled_of x.settled x.player)
 
 abbrev pub free_of : Parts → VertexSet
-free_of x v = active_of x.subgame v || stands x.settled.places.items (settled_of x.settled x.player) x.from v
+free_of x v = active_of x.subgame v || is_listed_from x.settled.places.items (settled_of x.settled x.player) x.from v
 
 -- the parts of a game of n vertices: no settled vertex is active
 pub record AreParts (n : ℕ) (x : Parts) : Type 0 where

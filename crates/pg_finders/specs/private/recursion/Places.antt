@@ -10,8 +10,8 @@ abbrev pub HasPlaces : List ℕ → List ℕ → Type 0
 HasPlaces places xs = (k : ℕ) → k < length xs → slice_index_or places (slice_index_or xs k 0) 0 ≡ k
 
 -- whether the number is listed at its place in the table, from a place on
-abbrev pub stands : List ℕ → List ℕ → ℕ → ℕ → Bool
-stands places xs from v = (nat_lt (slice_index_or places v 0) (length xs) && not (nat_lt (slice_index_or places v 0) from))
+abbrev pub is_listed_from : List ℕ → List ℕ → ℕ → ℕ → Bool
+is_listed_from places xs from v = (nat_lt (slice_index_or places v 0) (length xs) && not (nat_lt (slice_index_or places v 0) from))
     && (slice_index_or xs (slice_index_or places v 0) 0 == v)
 
 -- a list for each player, of numbers below n, with one table for both; each place has 32 bits

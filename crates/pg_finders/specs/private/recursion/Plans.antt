@@ -26,10 +26,6 @@ SameAt old new v = (winners_of new v ≡ winners_of old v) × (choices_of new v 
 abbrev pub SameOutside : VertexSet → Plan → Plan → Type 0
 SameOutside U old new = (v : ℕ) → U v ≡ false → SameAt old new v
 
--- the mask is the set
-abbrev pub HoldsSet : List Bool → ℕ → VertexSet → Type 0
-HoldsSet mask n X = (length mask ≡ n) × ((v : ℕ) → members mask v ≡ X v)
-
 -- the mask has the vertices of the set below i, and no others
 pub record HasBelow (X : VertexSet) (i : ℕ) (mask : List Bool) : Type 0 where
   pub below : (v : ℕ) → v < i → members mask v ≡ X v

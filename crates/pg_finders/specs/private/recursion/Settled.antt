@@ -19,7 +19,7 @@ settled_of x Odd = x.odd.items
 abbrev pub IsPlaced : ℕ → Settled → Type 0
 IsPlaced n x = ArePlaced n x.places.items (settled_of x)
 
--- the list is without the vertex: what stands before a place from which on it is listed is as it was, and from there on only the vertex is gone
+-- the list is without the vertex: what is before a place from which on it is listed is as it was, and from there on only the vertex is gone
 pub record IsWithout (v : ℕ) (old new : List ℕ) : Type 0 where
   pub len : length new ≡ length old - 1
   pub before : (k : ℕ) → In (listed (drop k old)) v → take k new ≡ take k old

@@ -11,11 +11,11 @@ abbrev pub IsElsewhere : ClaimRows → ℕ → ℕ → Type 0
 IsElsewhere rows v w = (w ≢ v) × (named rows w ≡ false)
 
 -- v is not among the rows, and a play leaves it at once: if the player owns it, by each edge, and if the opponent does, by some edge
-pub record IsDeadEnd (s : Search) (rows : ClaimRows) (v : ℕ) : Type 0 where
+pub record IsLeftAtOnce (s : Search) (rows : ClaimRows) (v : ℕ) : Type 0 where
   pub fresh : named rows v ≡ false
   pub own : owner_of s.graph v ≡ s.player → (w : ℕ) → HasEdge s.graph v w → In s.inside w → IsElsewhere rows v w
   pub other : owner_of s.graph v ≢ s.player → (w : ℕ) × HasEdge s.graph v w × In s.inside w × IsElsewhere rows v w
 
--- v is a dead end, or between the numbers
+-- a play leaves v at once, or v is between the numbers
 abbrev pub IsRefused : Search → ℕ → ℕ → ClaimRows → ℕ → Type 0
-IsRefused s low high rows v = IsBetween low high v ⊎ IsDeadEnd s rows v
+IsRefused s low high rows v = IsBetween low high v ⊎ IsLeftAtOnce s rows v

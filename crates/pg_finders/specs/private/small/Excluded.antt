@@ -10,12 +10,12 @@ abbrev pub IsBetween : ℕ → ℕ → ℕ → Type 0
 IsBetween low high v = (low ≤ v) × (v < high)
 
 -- no claim that the search looks for has the vertex
-abbrev pub NoneHas : Search → ℕ → Type 0
-NoneHas s v = (claim : ClaimRows) → IsSmallClaim s claim → In (named claim) v → ⊥
+abbrev pub NoClaimHas : Search → ℕ → Type 0
+NoClaimHas s v = (claim : ClaimRows) → IsSmallClaim s claim → In (named claim) v → ⊥
 
 -- nor one between the numbers
-abbrev pub NoneHasBetween : Search → ℕ → ℕ → Type 0
-NoneHasBetween s low high = (v : ℕ) → IsBetween low high v → NoneHas s v
+abbrev pub NoClaimHasBetween : Search → ℕ → ℕ → Type 0
+NoClaimHasBetween s low high = (v : ℕ) → IsBetween low high v → NoClaimHas s v
 
 -- a successor of v in the subgame is between the numbers
 abbrev pub LeadsBetween : Search → ℕ → ℕ → ℕ → Type 0

@@ -33,7 +33,7 @@ pub record IsPartial (s : Search) (rows : ClaimRows) (done : ℕ) : Type 0 where
   pub good : OnlyGoodWalks s.graph s.player (named (take done rows)) (choice_in rows)
 
 -- rows were added at the end
-pub record Extends (old new : ClaimRows) : Type 0 where
+pub record AddsRows (old new : ClaimRows) : Type 0 where
   pub longer : length old ≤ length new
   pub front : (n : ℕ) → n ≤ length old → take n new ≡ take n old
   pub keeps : Within (named old) (named new)

@@ -1,27 +1,29 @@
--- The results of the steps of a small search.
+-- What a small search looks for, and the results of its steps.
 use Rattle.std.specs.Prelude.{ℕ, ◌≡◌, ◌<◌, ◌+◌, false, length, Some}
 use Rattle.pg_game.specs.Graph.{HasEdge, owner_of}
 use Rattle.pg_game.specs.VertexSet.{In, Within}
 use Rattle.pg_dominion.specs.Claim.{ClaimRows, row_at, named, choice_in}
 use Rattle.pg_finders.specs.declared.small.Step.{Step}
 use Rattle.pg_finders.specs.declared.small.Step.TheVariants.{Found, Nothing, GaveUp}
-use Rattle.pg_finders.specs.private.small.Search.{Search, IsSmallClaim}
+use Rattle.pg_finders.specs.declared.small.rows.DominionSearch.{DominionSearch}
+use Rattle.pg_finders.specs.private.small.Search.{Search, IsSmallClaim, search_in}
 use Rattle.pg_finders.specs.private.small.Partial.{IsPartial, ExtendsChoices}
 
+abbrev pub search_of : DominionSearch → Search
+search_of s = search_in s.game.now s.mask.now s.player s.bound
+
+-- a fact for one result
 abbrev pub IfFound : Step → Type 0 → Type 0
 IfFound Found P = P
-IfFound Nothing P = Unit {0}
-IfFound GaveUp P = Unit {0}
+IfFound step P = Unit {0}
 
 abbrev pub IfNothing : Step → Type 0 → Type 0
-IfNothing Found P = Unit {0}
 IfNothing Nothing P = P
-IfNothing GaveUp P = Unit {0}
+IfNothing step P = Unit {0}
 
 abbrev pub IfGaveUp : Step → Type 0 → Type 0
-IfGaveUp Found P = Unit {0}
-IfGaveUp Nothing P = Unit {0}
 IfGaveUp GaveUp P = P
+IfGaveUp step P = Unit {0}
 
 -- at the row of this place the player chooses
 abbrev pub Chooses : Search → ClaimRows → ℕ → Type 0

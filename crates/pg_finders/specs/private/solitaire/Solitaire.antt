@@ -1,12 +1,11 @@
 -- A subgame where one player has no choice: his single successors, and the vertices that lead to a goal.
-use Rattle.std.specs.Prelude.{ℕ, ◌≡◌, ◌≤◌, ◌<◌, ◌&&◌, ◌⊎◌, nat_lt, Bool, false, List, length, slice_index, Option, Some, None}
+use Rattle.std.specs.Prelude.{ℕ, ◌≡◌, ◌≤◌, ◌<◌, ◌&&◌, ◌⊎◌, nat_lt, Bool, List, length, slice_index, Some}
 use Rattle.pg_game.specs.declared.player.Player.{Player}
-use Rattle.pg_game.specs.Graph.{Graph, HasEdge, owner_of, priority_of, successors_of}
+use Rattle.pg_game.specs.Graph.{Graph, HasEdge, owner_of, priority_of}
 use Rattle.pg_game.specs.VertexSet.{VertexSet, In, members}
 use Rattle.pg_game.specs.Kept.{Choices}
 use Rattle.pg_dominion.specs.declared.strategy_graph.StrategyGraph.{StrategyGraph}
-use Rattle.pg_dominion.specs.KeptEdges.{kept_choice}
-use Rattle.pg_dominion.specs.Strategies.{IsStrategy}
+use Rattle.pg_dominion.specs.KeptEdges.{IsStrategy, kept_choice}
 
 -- the vertex has no two different successors in the set
 abbrev pub HasOneAt : Graph → VertexSet → ℕ → Type 0
@@ -17,11 +16,6 @@ pub record IsSingle (g : Graph) (U : VertexSet) (v w : ℕ) : Type 0 where
   pub edge : HasEdge g v w
   pub inside : In U w
   pub only : (x : ℕ) → HasEdge g v x → In U x → x ≡ w
-
--- among the first successors, up to this number, the single one in the set; none if none of them is in it
-abbrev pub SingleSoFar : Graph → VertexSet → ℕ → ℕ → Option ℕ → Type 0
-SingleSoFar g U v i None = (k : ℕ) → k < i → U (slice_index (successors_of g v) k) ≡ false
-SingleSoFar g U v i (Some x) = HasEdge g v x × In U x × ((k : ℕ) → k < i → In U (slice_index (successors_of g v) k) → slice_index (successors_of g v) k ≡ x)
 
 -- below n the edges of the set are kept, where the player has his single successors as choices
 pub record IsForcedBelow (g : Graph) (U : VertexSet) (q : Player) (n : ℕ) (k : StrategyGraph) : Type 0 where

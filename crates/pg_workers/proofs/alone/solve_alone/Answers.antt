@@ -1,22 +1,11 @@
 use Rattle.std.specs.Prelude.{Option, None, IfSome}
-use Rattle.pg_workers.proofs.Common.{◌≡◌, ℕ, zero, suc, ◌≤◌, length, ap, arith, Some, slice_get, Graph, Player, KnownRows, own_choices, known_choice}
+use Rattle.pg_workers.proofs.Common.{◌≡◌, ℕ, length, ap, arith, Some, slice_get, Graph, Player, KnownRows, own_choices, known_choice}
 use Rattle.pg_text.specs.declared.solution_text.Solution.{Solution}
-use Rattle.pg_finders.specs.Steps.{steps}
 use Rattle.pg_board.specs.State.{State}
-use Rattle.pg_board.specs.Finish.{MayGiveUp, number_unsettled}
+use Rattle.pg_board.specs.Finish.{number_unsettled}
+use Rattle.pg_board.proofs.UnsettledNumber.{gives_up_before}
 use Rattle.pg_workers.specs.KnownRegions.{KeepsKnown}
 use Rattle.pg_workers.proofs.alone.solve_alone.Goals as goal
-
--- more vertices take no fewer steps
-steps_grow : (m n : ℕ) → m ≤ n → steps m ≤ steps n
-steps_grow zero zero le = omega arith
-steps_grow zero (suc n) le = let h = steps_grow zero n (omega arith) in omega (arith, h)
-steps_grow (suc m) zero le = absurd (omega (arith, le))
-steps_grow (suc m) (suc n) le = let h = steps_grow m n (omega (arith, le)) in omega (arith, h)
-
-may_give_up : (limit : Option ℕ) (m n : ℕ) → m ≤ n → MayGiveUp limit m → MayGiveUp limit n
-may_give_up None m n le h = h
-may_give_up (Some k) m n le h = let s = steps_grow m n le in omega (arith, h, s)
 
 -- what the board has of what is known, the solution has too
 known_kept : (found : Option Solution) (g : Graph) (known : KnownRows) (st : State) → KeepsKnown g known st
@@ -32,4 +21,4 @@ pub returns-clause-limited : goal.returns-clause-limited
 returns-clause-limited c = λ none.
     let board = c.in_ok-board.board in
     let same : length board.graph ≡ length c.args.of.now.game.now = ap (λ (g : Graph). length g) c.in_ok-board.ensures.game in
-    may_give_up c.args.limit (number_unsettled board) (length c.args.of.now.game.now) (omega (arith, same)) (c.in_ok-solve_board.ensures.limited none)
+    gives_up_before c.args.limit (number_unsettled board) (length c.args.of.now.game.now) (omega (arith, same)) (c.in_ok-solve_board.ensures.limited none)

@@ -1,5 +1,5 @@
 use Rattle.pg_workers.proofs.Common.{◌≡◌, ◌+◌, List, ◌++◌, length, take, drop, sym, ap, ◌∙◌, subst, arith, ReportRow, settled_in, AreNotedRows}
-use Rattle.pg_workers.proofs.Common.{rows_in, HasPlaces}
+use Rattle.pg_workers.proofs.Common.{rows_in, HasFreePlaces}
 use Rattle.pg_workers.proofs.report.PlacedRows.{has_places, more_placed, more_settled}
 use Rattle.pg_workers.proofs.report.Rows.{written}
 use Rattle.pg_workers.proofs.report.with_rows.Goals as goal
@@ -9,8 +9,8 @@ place_rows-requires c =
     let at = c.loop-rows in let prefix = c.requires.prefix in
     let places = has_places prefix.0 c.args.report.items at.report.items c.args.all.now at.rows-index c.rows-item.result c.requires.blank prefix.1 prefix.2
     c.loop-rows-test.true c.rows-item.is at.invariant.1 in
-    subst (λ (now : List ReportRow). HasPlaces now c.as_slice.result.now) (sym c.as_mut_slice.ensures.value)
-    (subst (HasPlaces at.report.items) (sym c.as_slice.ensures.value) places)
+    subst (λ (now : List ReportRow). HasFreePlaces now c.as_slice.result.now) (sym c.as_mut_slice.ensures.value)
+    (subst (HasFreePlaces at.report.items) (sym c.as_slice.ensures.value) places)
 
 pub loop-rows-preserved : goal.loop-rows-preserved
 loop-rows-preserved c =

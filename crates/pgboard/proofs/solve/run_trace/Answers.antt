@@ -1,4 +1,4 @@
-use Rattle.pgboard.proofs.Common.{rules, ℕ, ◌∙◌, List, length, ap, sym, subst, AllByRecursion, Journal, ReportRow, AddsUp, trace_text, AreVertices}
+use Rattle.pgboard.proofs.Common.{rules, ℕ, ◌∙◌, List, length, ap, sym, subst, AllByRecursion, Journal, ReportRow, AddsUp, trace_text, NamesVertices}
 use Rattle.pgboard.proofs.Common.{inr, err_from_is_err_and, RunFault, IsNoGame}
 use Rattle.pg_board.specs.Work.{total_of}
 use Rattle.pg_workers.specs.Report.{IsInOrder, IsReport}
@@ -15,7 +15,7 @@ returns-in_err-outcome-clause-fault g c =
 
 pub write_trace-requires : goal.write_trace-requires
 write_trace-requires g c =
-    subst (λ (j : Journal). AllByRecursion (λ e. AllByRecursion (AreVertices (length c.in_ok-game.game)) e.rows) j) (sym c.as_slice-entries.ensures.value)
+    subst (λ (j : Journal). AllByRecursion (λ e. AllByRecursion (NamesVertices (length c.in_ok-game.game)) e.rows) j) (sym c.as_slice-entries.ensures.value)
     (journal_rows _ c.in_ok-game.ensures.is_game _ c.in_ok-outcome.ensures.outcome.lawful)
 
 pub returns-clause-writes : goal.returns-clause-writes

@@ -1,5 +1,5 @@
 use Rattle.pg_board.proofs.Common.{◌≡◌, ◌≤◌, ◌+◌, ◌-◌, ℕ, false, ap, rules, state_of, IsFull, arith, arc_value}
-use Rattle.pg_board.specs.SessionRecord.{SessionRecord}
+use Rattle.pg_board.specs.BoardRecord.{SessionRecord}
 use Rattle.pg_board.specs.Slices.{slices_left}
 use Rattle.pg_board.proofs.Slices.{still_open, in_session, charged_in_session}
 use Rattle.pg_board.proofs.session.Session.advance.Goals as goal

@@ -1,10 +1,9 @@
 use Rattle.pg_board.proofs.Common.{subst, length, ◌≤◌, Graph, Option, None, Some}
 use Rattle.pg_board.specs.Board.{IsLawfulBoard}
-use Rattle.pg_board.specs.BoardRecord.{journal_of}
+use Rattle.pg_board.specs.BoardRecord.{SessionRecord, journal_of}
 use Rattle.pg_board.specs.declared.contents.Contents.{Contents}
 use Rattle.pg_board.specs.private.Contents.{AreContentsOf}
 use Rattle.pg_board.proofs.Numbers.{lawful_board}
-use Rattle.pg_board.specs.SessionRecord.{SessionRecord}
 use Rattle.pg_board.specs.Slices.{most_slices}
 use Rattle.pg_board.proofs.Slices.{slices_within}
 use Rattle.pg_board.proofs.session.Session.game.Goals as goal

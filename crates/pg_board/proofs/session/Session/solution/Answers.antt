@@ -1,7 +1,7 @@
 use Rattle.pg_board.proofs.Common.{◌≡◌, ◌∙◌, subst, ap, Graph, BoardRecord}
 use Rattle.std.proofs.Common.{IfOk}
 use Rattle.pg_board.specs.Board.{IsSolutionOf}
-use Rattle.pg_board.specs.SessionRecord.{SessionRecord}
+use Rattle.pg_board.specs.BoardRecord.{SessionRecord}
 use Rattle.pg_board.specs.private.Contents.{board_record}
 use Rattle.pg_board.proofs.session.Session.solution.Goals as goal
 

@@ -6,4 +6,4 @@ pub invariant_of-result : goal.invariant_of-result
 invariant_of-result c =
     let claim = c.args.claim.now in
     let sound = subst (λ (xs : ClaimRows). IsSound c.args.game.now claim.player xs) (sym c.in_ok-rows.ensures.rows) c.requires in
-    (checked c.args.game.now claim.player c.in_ok-rows.rows.items c.in_ok-rows.ensures.agree sound, search rules)
+    (rw c.new.ensures.player (checked c.args.game.now claim.player c.in_ok-rows.rows.items c.in_ok-rows.ensures.agree sound), search rules)

@@ -1,20 +1,16 @@
-use Rattle.pg_finders.proofs.Common.{ℕ, List, length, ap, subst, ◌∙◌, min, IfOk, append-nil, Graph, members, Claim, IsGoodIn, IsSolitaire, IsOfSmall}
+use Rattle.pg_finders.proofs.Common.{ℕ, List, length, ap, subst, ◌∙◌, min, IfOk, append-nil, Graph, members, Claim, IsOfSmall}
 use Rattle.std.proofs.Common.{Option}
 use Rattle.std.specs.Prelude.{◌++◌}
 use Rattle.std.specs.Option.{option_to_list}
 use Rattle.std.proofs.lemmas.Result.{IfOk-weaker}
 use Rattle.pg_finders.specs.Jobs.{seeds_of, with_rows}
-use Rattle.pg_finders.proofs.finder.Jobs.{both_of}
 use Rattle.pg_finders.proofs.finder.StandardFinder.find.Goals as goal
 
 pub returns-in_ok-find_solitaire-in-Solitaire-clause-solitaire : goal.returns-in_ok-find_solitaire-in-Solitaire-clause-solitaire
 returns-in_ok-find_solitaire-in-Solitaire-clause-solitaire c =
-    let i = c.args.copied.now.inside in
     let s = c.in_ok-find_solitaire-in-Solitaire in
-    let both = both_of (IsSolitaire i.graph (members i.mask)) (λ x. IsGoodIn i.graph (members i.mask) x.player x.rows) s.field-0
-    s.ensures.none s.ensures.good in
-    rw c.in-Solitaire.is (IfOk-weaker c.all_of-in-Solitaire.result _ _ (λ f h. record { found = s.field-0; answer = both; all = h ∙ append-nil _ })
-    c.all_of-in-Solitaire.ensures.claims)
+    rw c.in-Solitaire.is (IfOk-weaker c.all_of-in-Solitaire.result _ _
+    (λ f h. record { found = s.field-0; answer = s.ensures; all = h ∙ append-nil _ }) c.all_of-in-Solitaire.ensures.claims)
 
 pub returns-in_ok-seeds-in-Small-clause-small : goal.returns-in_ok-seeds-in-Small-clause-small
 returns-in_ok-seeds-in-Small-clause-small c =

@@ -7,7 +7,7 @@ use Rattle.pg_finders.specs.private.recursion.SolverState.{after_step}
 use Rattle.pg_finders.proofs.recursion.LoopSteps.{open_levels_done}
 use Rattle.pg_finders.proofs.recursion.Solver.run.Goals as goal
 
--- the last item of a list stands after the others, and a list without one has none
+-- the last item of a list comes after the others, and a list without one has none
 last_split : (xs : List Frame) (f : Frame) → slice_get xs (length xs - 1) ≡ Some f → xs ≡ take (length xs - 1) xs ++ f ∷ []
 last_split xs f h =
     let k = length xs - 1 in

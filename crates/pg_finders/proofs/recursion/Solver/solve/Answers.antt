@@ -8,5 +8,5 @@ returns-clause-claims c =
     let plan = c.run.new.self.parts.subgame.plan in
     let view = c.args.view.now in
     are_claims view.game.now (members view.mask.now) (winners_of plan) (choices_of plan) (subgame_of view.game.now view.mask.now view.size view.no_dead_end)
-    (search (rules, c.in_ok-run.ensures.solved)) c.claim_of.result c.claim_of-2.result c.claim_of.ensures.player c.claim_of-2.ensures.player
-    (c.claim_of.ensures.rows ∙ c.in_ok-even.ensures.even) (c.claim_of-2.ensures.rows ∙ c.in_ok-even.ensures.odd)
+    (search (rules, c.in_ok-run.ensures.solved)) c.new.result c.new-2.result c.new.ensures.player c.new-2.ensures.player
+    (c.new.ensures.rows ∙ c.in_ok-even.ensures.even) (c.new-2.ensures.rows ∙ c.in_ok-even.ensures.odd)

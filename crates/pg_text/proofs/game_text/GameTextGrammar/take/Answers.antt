@@ -16,7 +16,7 @@ returns-in-Number-Priority c sound ts t x k = record {
   reads = λ v. on k t state.Player refl (search rules) (λ u a.
       let w = v u in
       let l = w.1 refl in
-      search (rules, c.player-self.ensures, c.clear.ensures.specs, c.clear.ensures.successors));
+      search (rules, c.of_digit-self.ensures.player, c.clear.ensures.specs, c.clear.ensures.successors));
   before = λ u p. before_owner k c.args.symbol (k.agrees u).lines_are.1 (search rules);
 }
 

@@ -12,7 +12,7 @@ returns-in-Number-Start c sound ts t x k = entered (λ p. cc p) (λ v. on k t st
 pub returns-in-Number-Id : goal.returns-in-Number-Id
 returns-in-Number-Id c sound ts t x k = record {
   reads = λ v. on k t state.Player refl (search rules) (λ u a.
-      let w = v u in let is = ap digit_of c.player-self.ensures ∙ winner_is w.0 (w.1 refl) in search (rules, is));
+      let w = v u in let is = ap digit_of c.of_digit-self.ensures.player ∙ winner_is w.0 (w.1 refl) in search (rules, is));
   before = λ u p.
       before_winner k c.args.symbol (subst AreWinners (k.agrees u).lines_are (are_winners c.args.self.now.lines.items)) (search rules);
 }

@@ -1,7 +1,14 @@
-use Rattle.pgboard_c.proofs.Common.{rules, ◌≡◌, ◌<◌, ◌≤◌, List, length, sym, subst, arith, All, Spec, AreNumbers, array_specs, game_lists}
+use Rattle.pgboard_c.proofs.Common.{rules, ◌≡◌, ◌∙◌, ◌<◌, ◌≤◌, List, [], ◌∷◌, length, sym, subst, arith, All, Spec, AreNumbers, array_spec, array_specs, game_lists}
 use Rattle.pg_game.proofs.Sound.{many_fault}
-use Rattle.pgboard_c.proofs.arrays.GameOfArrays.{length_specs, numbers_below}
+use Rattle.std.specs.Prelude.{◌++◌}
+use Rattle.pgboard_c.proofs.arrays.GameOfArrays.{length_specs, numbers_below, specs_below, specs_more}
 use Rattle.pgboard_c.proofs.arrays.GameArrays.specs.Goals as goal
+
+pub loop-v-preserved : goal.loop-v-preserved
+loop-v-preserved c =
+    let a = game_lists c.args.self.now in let v = c.loop-v.v in
+    let pushed : c.push.new.self ≡ specs_below a v ++ array_spec a v ∷ [] = search rules in
+    pushed ∙ sym (specs_more a v)
 
 pub returns-then-n-gt-MAX_IDS-clause-fault : goal.returns-then-n-gt-MAX_IDS-clause-fault
 returns-then-n-gt-MAX_IDS-clause-fault c =

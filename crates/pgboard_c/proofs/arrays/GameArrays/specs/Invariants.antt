@@ -1,4 +1,5 @@
-use Rattle.pgboard_c.proofs.Common.{◌≡◌, specs_below, game_lists}
+use Rattle.pgboard_c.proofs.Common.{◌≡◌, game_lists}
+use Rattle.pgboard_c.proofs.arrays.GameOfArrays.{specs_below}
 use Rattle.pgboard_c.proofs.arrays.GameArrays.specs.Given as goal
 
 abbrev pub invariant-loop-v : goal.invariant-loop-v

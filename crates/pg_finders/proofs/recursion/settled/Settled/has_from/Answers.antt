@@ -1,47 +1,47 @@
 use Rattle.pg_finders.proofs.Common.{◌≡◌, ◌∙◌, ◌==◌, ℕ, List, length, refl, sym, ap, arith, slice_index_or, settled_of}
 use Rattle.pg_dominion.proofs.Common.{get_or_read}
-use Rattle.pg_finders.proofs.recursion.PlacedLists.{stands_here, stands_not, stands_is}
+use Rattle.pg_finders.proofs.recursion.PlacedLists.{is_listed_here, not_listed_from, listed_from_is}
 use Rattle.pg_finders.proofs.recursion.settled.Settled.has_from.Goals as goal
 
-pub returns-then-from-list-clause-stands : goal.returns-then-from-list-clause-stands
-returns-then-from-list-clause-stands c =
+pub returns-then-from-list-clause-place : goal.returns-then-from-list-clause-place
+returns-then-from-list-clause-place c =
     let same : length c.list-list.result.now ≡ length (settled_of c.args.self.now c.args.player) = ap length c.list-list.ensures in
-    sym (stands_not c.args.self.now.places.items (settled_of c.args.self.now c.args.player) c.args.from c.args.v _ refl (λ l m. omega (arith, l, m, same, c.if-from-list.true)))
+    sym (not_listed_from c.args.self.now.places.items (settled_of c.args.self.now c.args.player) c.args.from c.args.v _ refl (λ l m. omega (arith, l, m, same, c.if-from-list.true)))
 
 pub returns-then-from-list-clause-listed : goal.returns-then-from-list-clause-listed
-returns-then-from-list-clause-listed c = λ n h. returns-then-from-list-clause-stands c
-    ∙ stands_is c.args.self.now.places.items (settled_of c.args.self.now c.args.player) (h.table c.args.player) c.args.from c.args.v
+returns-then-from-list-clause-listed c = λ n h. returns-then-from-list-clause-place c
+    ∙ listed_from_is c.args.self.now.places.items (settled_of c.args.self.now c.args.player) (h.table c.args.player) c.args.from c.args.v
 
-pub returns-then-place-from-clause-stands : goal.returns-then-place-from-clause-stands
-returns-then-place-from-clause-stands c =
+pub returns-then-place-from-clause-place : goal.returns-then-place-from-clause-place
+returns-then-place-from-clause-place c =
     let P = c.args.self.now.places.items in
     let e : c.index.result.now ≡ slice_index_or P c.args.v 0 = get_or_read P c.args.v _ c.requires c.index.ensures 0 in
-    sym (stands_not P (settled_of c.args.self.now c.args.player) c.args.from c.args.v c.index.result.now e (λ l m. omega (arith, l, c.if-place-from.true)))
+    sym (not_listed_from P (settled_of c.args.self.now c.args.player) c.args.from c.args.v c.index.result.now e (λ l m. omega (arith, l, c.if-place-from.true)))
 
 pub returns-then-place-from-clause-listed : goal.returns-then-place-from-clause-listed
-returns-then-place-from-clause-listed c = λ n h. returns-then-place-from-clause-stands c
-    ∙ stands_is c.args.self.now.places.items (settled_of c.args.self.now c.args.player) (h.table c.args.player) c.args.from c.args.v
+returns-then-place-from-clause-listed c = λ n h. returns-then-place-from-clause-place c
+    ∙ listed_from_is c.args.self.now.places.items (settled_of c.args.self.now c.args.player) (h.table c.args.player) c.args.from c.args.v
 
-pub returns-then-place-list-clause-stands : goal.returns-then-place-list-clause-stands
-returns-then-place-list-clause-stands c =
+pub returns-then-place-list-clause-place : goal.returns-then-place-list-clause-place
+returns-then-place-list-clause-place c =
     let P = c.args.self.now.places.items in
     let e : c.index.result.now ≡ slice_index_or P c.args.v 0 = get_or_read P c.args.v _ c.requires c.index.ensures 0 in
     let same : length c.list-list.result.now ≡ length (settled_of c.args.self.now c.args.player) = ap length c.list-list.ensures in
-    sym (stands_not P (settled_of c.args.self.now c.args.player) c.args.from c.args.v c.index.result.now e (λ l m. omega (arith, m, same, c.if-place-list.true)))
+    sym (not_listed_from P (settled_of c.args.self.now c.args.player) c.args.from c.args.v c.index.result.now e (λ l m. omega (arith, m, same, c.if-place-list.true)))
 
 pub returns-then-place-list-clause-listed : goal.returns-then-place-list-clause-listed
-returns-then-place-list-clause-listed c = λ n h. returns-then-place-list-clause-stands c
-    ∙ stands_is c.args.self.now.places.items (settled_of c.args.self.now c.args.player) (h.table c.args.player) c.args.from c.args.v
+returns-then-place-list-clause-listed c = λ n h. returns-then-place-list-clause-place c
+    ∙ listed_from_is c.args.self.now.places.items (settled_of c.args.self.now c.args.player) (h.table c.args.player) c.args.from c.args.v
 
-pub returns-clause-stands : goal.returns-clause-stands
-returns-clause-stands c =
+pub returns-clause-place : goal.returns-clause-place
+returns-clause-place c =
     let P = c.args.self.now.places.items in
     let e : c.index.result.now ≡ slice_index_or P c.args.v 0 = get_or_read P c.args.v _ c.requires c.index.ensures 0 in
     let same : length c.list-list.result.now ≡ length (settled_of c.args.self.now c.args.player) = ap length c.list-list.ensures in
     ap (λ (ys : List ℕ). slice_index_or ys c.index.result.now 0 == c.args.v) c.list-list.ensures
-    ∙ stands_here P (settled_of c.args.self.now c.args.player) c.args.from c.args.v
+    ∙ is_listed_here P (settled_of c.args.self.now c.args.player) c.args.from c.args.v
     c.index.result.now e (omega (arith, c.if-place-from.false)) (omega (arith, same, c.if-place-list.false))
 
 pub returns-clause-listed : goal.returns-clause-listed
-returns-clause-listed c = λ n h. returns-clause-stands c
-    ∙ stands_is c.args.self.now.places.items (settled_of c.args.self.now c.args.player) (h.table c.args.player) c.args.from c.args.v
+returns-clause-listed c = λ n h. returns-clause-place c
+    ∙ listed_from_is c.args.self.now.places.items (settled_of c.args.self.now c.args.player) (h.table c.args.player) c.args.from c.args.v

@@ -1,5 +1,5 @@
 use Rattle.pg_workers.proofs.Common.{◌≡◌, ◌≤◌, length, known_of, known_choice, own_choices, rows_below}
-use Rattle.pg_workers.proofs.known.vertex_in_row.Given as goal
+use Rattle.pg_workers.proofs.known.id_in_row.Given as goal
 
 -- so many vertices of the set were seen, and no more than are looked for
 abbrev pub invariant-loop-v : goal.invariant-loop-v

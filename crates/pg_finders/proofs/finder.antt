@@ -1,2 +1,0 @@
--- Lemmas of the proofs of `finder`.
-pub mod Jobs

@@ -1,2 +1,0 @@
--- Dominions of a single vertex, as a set.
-pub mod Singles
