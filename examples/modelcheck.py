@@ -35,7 +35,7 @@ An action a is a label without blanks: a name, with data in brackets where the
 label has some, or several joined by |. A label of another form stands between
 double quotes. A variable stands under an even number of negations inside its
 fixed point. The words or, and, not are the same as ||, && and !. % begins a
-comment that ends with its line.
+comment that ends with its line. At most 262,144 characters are read.
 
 Standard error names each action that is no label of the model, since it may be
 a typing error, but neither tau nor an action that inside its brackets stands
@@ -59,8 +59,7 @@ NUMBER, STATE = f"{BLANK}([0-9]+){BLANK}", f"{BLANK}([0-9]{{1,10}}){BLANK}"
 LABEL = r'"[^"\n]*"|[^\s",](?:[^",\n]*[^\s",])?'
 HEAD = re.compile(rf"\s*des{BLANK}\({NUMBER},{NUMBER},{NUMBER}\){BLANK}(?:\n|\Z)")
 LINE = rf"{BLANK}\({STATE},(?:{BLANK}({LABEL}))?{BLANK},{STATE}\){BLANK}"
-TRANSITION = re.compile(LINE)
-TRANSITIONS = re.compile(f"(?m)^{LINE}$")
+TRANSITION, TRANSITIONS, GIVEN = re.compile(LINE), re.compile(f"(?m)^{LINE}$"), re.compile(r"\S[^\n]*")
 # what a word may be that is meant as a file's name
 FILE_NAME = re.compile(r"[\w./~-]*(/[\w.-]+|\w\.[a-z]\w*)")
 # after so many vertices there is another line of progress
@@ -80,29 +79,27 @@ class Model(Text):
         if self.states > MOST_STATES:
             self.refuse("too many states: at most 2147483648", head.start(3))
         self.check(head.start(1), self.first)
-        found, rest = TRANSITIONS.findall(text, head.end()), text[head.end() :]
-        given = sum(1 for line in rest.split("\n") if line and not line.isspace())
-        self.next = {}
-        for state, label, to in found:
-            label = label[1:-1] if label[:1] == '"' else label
-            self.next.setdefault(int(state), []).append((label, int(to)))
-        reached = (to for moves in self.next.values() for _, to in moves)
-        greatest = max(max(self.next, default=0), max(reached, default=0))
-        if len(found) != given or greatest >= self.states:
+        self.next, kept, read, greatest = {}, {}, 0, 0
+        for found in TRANSITIONS.finditer(text, head.end()):
+            state, label, to = int(found[1]), found[2] or "", int(found[3])
+            label = kept.setdefault(label, label[1:-1] if label[:1] == '"' else label)
+            self.next.setdefault(state, []).append((label, to))
+            read, greatest = read + 1, max(greatest, state, to)
+        given = sum(1 for _ in GIVEN.finditer(text, head.end()))
+        if read != given or greatest >= self.states:
             self.refuse_line(head.end())
         if count != given:
             self.refuse(f"{count} transitions are announced, and {given} follow", head.start(2))
 
     def refuse_line(self, at):
         """Refuses the first line that is no transition of these states."""
-        for line in self.text[at:].split("\n"):
-            found = TRANSITION.fullmatch(line)
-            if found:
-                self.check(at + found.start(1), int(found[1]))
-                self.check(at + found.start(3), int(found[3]))
-            elif line.strip():
-                self.refuse('not of the form: (state, "label", state)', at + len(line) - len(line.lstrip()))
-            at += len(line) + 1
+        for line in GIVEN.finditer(self.text, at):
+            begins = self.text.rfind("\n", 0, line.start()) + 1
+            found = TRANSITION.fullmatch(self.text, begins, line.end())
+            if not found:
+                self.refuse('not of the form: (state, "label", state)', line.start())
+            self.check(found.start(1), int(found[1]))
+            self.check(found.start(3), int(found[3]))
 
     def check(self, at, state):
         if state >= self.states:

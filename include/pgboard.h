@@ -43,7 +43,8 @@ extern "C" {
 #define PGBOARD_VERSION_PATCH 0
 #define PGBOARD_VERSION (PGBOARD_VERSION_MAJOR * 10000 + PGBOARD_VERSION_MINOR * 100 + PGBOARD_VERSION_PATCH)
 
-/* The version of the linked library, in the form of PGBOARD_VERSION. */
+/* The version of the linked library, in the form of PGBOARD_VERSION. A library that was built without proofs also has a constant
+ * pgboard_unproved, a C string with what it is and of which commit. */
 uint32_t pgboard_version(void);
 
 /* The limits: vertices and edges of a game, where two edges from a vertex to the same successor are one; priorities, and
@@ -196,10 +197,10 @@ struct pgboard_results {
 PGBOARD_CALL
 uint32_t pgboard_solve(const struct pgboard_game *game, struct pgboard_results *results, struct pgboard_report *report);
 
-/* The same as pgboard_solve, with a bound on the recursion, whose proved bound is exponential: the answer is
- * PGBOARD_GAVE_UP if it needs more steps. A step begins a subgame. With at least 3 * 2^n - 2 steps for n vertices no call gives up.
- * Tests show when a call gives up with fewer, and that the same call on the same game needs the same number of steps each time. The
- * searches before the recursion have bounds of their own. */
+/* The same as pgboard_solve, with a limit on the recursion: the answer is PGBOARD_GAVE_UP if it needs more steps. A step begins a
+ * subgame. With at least 3 * (n + 1)^d - 2 or 3 * 2^n - 2 steps, for n vertices of d different priorities, no call gives up: a million
+ * vertices of three priorities need fewer than 3.1 * 10^18. Tests show when a call gives up with fewer, and that the same call on the
+ * same game needs the same number of steps each time. The searches before the recursion have bounds of their own. */
 PGBOARD_CALL
 uint32_t pgboard_solve_within(const struct pgboard_game *game, uint64_t steps, struct pgboard_results *results,
                               struct pgboard_report *report);
@@ -210,7 +211,8 @@ PGBOARD_CALL
 uint32_t pgboard_solve_known(const struct pgboard_game *game, const struct pgboard_solution *known,
                              struct pgboard_results *results, struct pgboard_report *report);
 
-/* The same with a bound, as of pgboard_solve_within. What is known is judged first. */
+/* The same with a limit, as of pgboard_solve_within, where n vertices are neither known nor attracted by a player to what is known of
+ * his, and the game has d different priorities. What is known is judged first. */
 PGBOARD_CALL
 uint32_t pgboard_solve_known_within(const struct pgboard_game *game, const struct pgboard_solution *known, uint64_t steps,
                                     struct pgboard_results *results, struct pgboard_report *report);
@@ -259,7 +261,11 @@ struct pgboard_board {
     void *at;
     unsigned char live;
 };
+#ifdef __cplusplus
+#define PGBOARD_BOARD {}
+#else
 #define PGBOARD_BOARD {0, 0}
+#endif
 
 /* A claim: the player (0 Even, 1 Odd) wins these vertices, which rise, by these choices. A choice is a successor where the player
  * owns the vertex, and else PGBOARD_NO_CHOICE. It need not be closed: it may lead to what is settled for the player. `worker` is
@@ -348,8 +354,8 @@ uint32_t pgboard_board_entry(struct pgboard_board *board, uint64_t number, struc
 PGBOARD_CALL
 uint32_t pgboard_board_finish(struct pgboard_board *board, struct pgboard_report *report);
 
-/* The same with a bound, as of pgboard_solve_within, where n vertices are unsettled: PGBOARD_GAVE_UP is a fault too. A full board needs
- * no step. */
+/* The same with a limit, as of pgboard_solve_within, where n vertices are unsettled, of d different priorities: PGBOARD_GAVE_UP is a
+ * fault too. A full board needs no step. */
 PGBOARD_CALL
 uint32_t pgboard_board_finish_within(struct pgboard_board *board, uint64_t steps, struct pgboard_report *report);
 
@@ -388,6 +394,13 @@ struct pgboard_text {
 /* The text of an answer, in English, and the version as a text. The caller's struct points to any text before, as "". */
 void pgboard_answer_text(uint32_t answer, struct pgboard_text *text);
 void pgboard_version_text(struct pgboard_text *text);
+
+/* The same for languages that call no inline function: copies the text with its zero byte to the front of a buffer, if it fits,
+ * and returns its size. If the size is above `into_len`, the buffer is unchanged. */
+PGBOARD_CALL
+size_t pgboard_copy_answer_text(uint32_t answer, char *into, size_t into_len);
+PGBOARD_CALL
+size_t pgboard_copy_version_text(char *into, size_t into_len);
 
 /* The same as C strings. */
 PGBOARD_INLINE const char *pgboard_strerror(uint32_t answer)

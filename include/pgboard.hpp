@@ -58,7 +58,7 @@ template <class Item> class span {
   public:
     span() = default;
     template <class First, class = std::enable_if_t<std::is_convertible_v<First, Item *>>>
-    span(First first, std::size_t length) noexcept : first(first), length(length)
+    span(First at, std::size_t count) noexcept : first(at), length(count)
     {
     }
     template <std::size_t Count> span(Item (&items)[Count]) noexcept : span(&items[0], Count) {}
@@ -90,15 +90,16 @@ struct solution {
     std::vector<std::uint32_t> choices;
 };
 
-// The same, which others hold. A view may be kept as long as they are there.
+// The same, which others hold. A view may be kept as long as they are there, so none is made of a temporary.
 struct game_view {
     span<const std::uint8_t> owners;
     span<const std::uint32_t> priorities, starts, targets;
 
     game_view() = default;
     game_view(const game &it) noexcept : game_view(it.owners, it.priorities, it.starts, it.targets) {}
-    game_view(span<const std::uint8_t> owners, span<const std::uint32_t> priorities, span<const std::uint32_t> starts, span<const std::uint32_t> targets) noexcept
-        : owners(owners), priorities(priorities), starts(starts), targets(targets)
+    game_view(const game &&) = delete;
+    game_view(span<const std::uint8_t> by, span<const std::uint32_t> ranks, span<const std::uint32_t> rows, span<const std::uint32_t> to) noexcept
+        : owners(by), priorities(ranks), starts(rows), targets(to)
     {
     }
 };
@@ -108,7 +109,21 @@ struct solution_view {
     span<const std::uint32_t> choices;
 
     solution_view(const solution &it) noexcept : solution_view(it.winners, it.choices) {}
-    solution_view(span<const std::uint8_t> winners, span<const std::uint32_t> choices) noexcept : winners(winners), choices(choices) {}
+    solution_view(const solution &&) = delete;
+    solution_view(span<const std::uint8_t> by, span<const std::uint32_t> moves) noexcept : winners(by), choices(moves) {}
+};
+
+// The same for the time of a call, which a temporary outlasts.
+struct game_argument : game_view {
+    using game_view::game_view;
+    game_argument(const game_view &it) noexcept : game_view(it) {}
+    game_argument(const game &&it) noexcept : game_view(it) {}
+};
+
+struct solution_argument : solution_view {
+    using solution_view::solution_view;
+    solution_argument(const solution_view &it) noexcept : solution_view(it) {}
+    solution_argument(const solution &&it) noexcept : solution_view(it) {}
 };
 
 // An answer of pgboard.h, its report, and the value if the answer is PGBOARD_OK.
@@ -186,43 +201,51 @@ template <class Call> outcome<std::string> text_by(Call call, std::string_view t
 } // namespace detail
 
 // Solves a game.
-inline solution solve(const game_view &game)
+[[nodiscard]] inline outcome<solution> try_solve(const game_argument &game)
 {
     const pgboard_game arrays = detail::arrays(game);
-    return detail::judged(detail::written(game.owners.size(), [&](auto *results, auto *report) { return pgboard_solve(&arrays, results, report); }));
+    return detail::written(game.owners.size(), [&](auto *results, auto *report) { return pgboard_solve(&arrays, results, report); });
+}
+[[nodiscard]] inline solution solve(const game_argument &game)
+{
+    return detail::judged(try_solve(game));
 }
 
 // Solves a game, or gives up with the answer PGBOARD_GAVE_UP if the recursion needs more steps than these.
-inline outcome<solution> try_solve_within(const game_view &game, std::uint64_t steps)
+[[nodiscard]] inline outcome<solution> try_solve_within(const game_argument &game, std::uint64_t steps)
 {
     const pgboard_game arrays = detail::arrays(game);
     return detail::written(game.owners.size(), [&](auto *results, auto *report) { return pgboard_solve_within(&arrays, steps, results, report); });
 }
-inline solution solve_within(const game_view &game, std::uint64_t steps)
+[[nodiscard]] inline solution solve_within(const game_argument &game, std::uint64_t steps)
 {
     return detail::judged(try_solve_within(game, steps));
 }
 
 // Solves a game from what is known, where PGBOARD_NO_WINNER is an unknown winner; also with a bound, as above.
-inline solution solve(const game_view &game, const solution_view &known)
+[[nodiscard]] inline outcome<solution> try_solve(const game_argument &game, const solution_argument &known)
 {
     const pgboard_game arrays = detail::arrays(game);
     const pgboard_solution given = detail::arrays(known);
-    return detail::judged(detail::written(game.owners.size(), [&](auto *results, auto *report) { return pgboard_solve_known(&arrays, &given, results, report); }));
+    return detail::written(game.owners.size(), [&](auto *results, auto *report) { return pgboard_solve_known(&arrays, &given, results, report); });
 }
-inline outcome<solution> try_solve_within(const game_view &game, const solution_view &known, std::uint64_t steps)
+[[nodiscard]] inline solution solve(const game_argument &game, const solution_argument &known)
+{
+    return detail::judged(try_solve(game, known));
+}
+[[nodiscard]] inline outcome<solution> try_solve_within(const game_argument &game, const solution_argument &known, std::uint64_t steps)
 {
     const pgboard_game arrays = detail::arrays(game);
     const pgboard_solution given = detail::arrays(known);
     return detail::written(game.owners.size(), [&](auto *results, auto *report) { return pgboard_solve_known_within(&arrays, &given, steps, results, report); });
 }
-inline solution solve_within(const game_view &game, const solution_view &known, std::uint64_t steps)
+[[nodiscard]] inline solution solve_within(const game_argument &game, const solution_argument &known, std::uint64_t steps)
 {
     return detail::judged(try_solve_within(game, known, steps));
 }
 
 // Checks that winners and choices are a solution of a game; a fault says what is wrong first.
-inline outcome<> try_check(const game_view &game, const solution_view &solution) noexcept
+[[nodiscard]] inline outcome<> try_check(const game_argument &game, const solution_argument &solution) noexcept
 {
     const pgboard_game arrays = detail::arrays(game);
     const pgboard_solution given = detail::arrays(solution);
@@ -230,33 +253,33 @@ inline outcome<> try_check(const game_view &game, const solution_view &solution)
     found.answer = pgboard_check(&arrays, &given, &found.report);
     return found;
 }
-inline void check(const game_view &game, const solution_view &solution)
+inline void check(const game_argument &game, const solution_argument &solution)
 {
     detail::judged(try_check(game, solution));
 }
 
 // The text of a solution of a game's text.
-inline outcome<std::string> try_solve_text(std::string_view game)
+[[nodiscard]] inline outcome<std::string> try_solve_text(std::string_view game)
 {
     return detail::text_by(pgboard_solve_text, game);
 }
-inline std::string solve_text(std::string_view game)
+[[nodiscard]] inline std::string solve_text(std::string_view game)
 {
     return detail::judged(try_solve_text(game));
 }
 
 // The one written form of a game's text.
-inline outcome<std::string> try_tidy_text(std::string_view game)
+[[nodiscard]] inline outcome<std::string> try_tidy_text(std::string_view game)
 {
     return detail::text_by(pgboard_tidy_text, game);
 }
-inline std::string tidy_text(std::string_view game)
+[[nodiscard]] inline std::string tidy_text(std::string_view game)
 {
     return detail::judged(try_tidy_text(game));
 }
 
 // Checks that a text is a solution of a game's text; a fault says what is wrong first.
-inline outcome<> try_verify_text(std::string_view game, std::string_view solution) noexcept
+[[nodiscard]] inline outcome<> try_verify_text(std::string_view game, std::string_view solution) noexcept
 {
     outcome<> found{};
     found.answer = pgboard_verify_text(detail::bytes(game), game.size(), detail::bytes(solution), solution.size(), &found.report);
@@ -291,7 +314,8 @@ class journal {
             const entry *operator->() const { return &it; }
         };
 
-        iterator(const board *of, std::uint64_t number) noexcept : of(of), number(number) {}
+        iterator() = default;
+        iterator(const board *board, std::uint64_t at) noexcept : of(board), number(at) {}
         entry operator*() const;
         pointer operator->() const { return {**this}; }
         iterator &operator++() noexcept { return number++, *this; }
@@ -302,15 +326,15 @@ class journal {
 
       private:
         std::uint64_t at() const noexcept;
-        const board *of;
-        std::uint64_t number;
+        const board *of = nullptr;
+        std::uint64_t number = 0;
     };
 
-    explicit journal(const board &of) noexcept : of(&of) {}
-    iterator begin() const noexcept { return {of, 0}; }
-    iterator end() const noexcept { return {of, UINT64_MAX}; }
-    std::uint64_t size() const noexcept;
-    entry operator[](std::uint64_t number) const;
+    explicit journal(const board &board) noexcept : of(&board) {}
+    [[nodiscard]] iterator begin() const noexcept { return {of, 0}; }
+    [[nodiscard]] iterator end() const noexcept { return {of, UINT64_MAX}; }
+    [[nodiscard]] std::uint64_t size() const noexcept;
+    [[nodiscard]] entry operator[](std::uint64_t number) const;
 
   private:
     const board *of;
@@ -322,20 +346,18 @@ class board {
     using list = std::initializer_list<std::uint32_t>;
 
   public:
-    explicit board(const game_view &game)
+    explicit board(const game_argument &game) : board(detail::judged(try_open(game))) {}
+    [[nodiscard]] static outcome<board> try_open(const game_argument &game) noexcept
     {
         const pgboard_game arrays = detail::arrays(game);
-        pgboard_report report;
-        detail::judge(pgboard_board_open(&held, &arrays, &report), report);
+        return opened([&](auto *it, auto *report) { return pgboard_board_open(it, &arrays, report); });
     }
     // A board of a game's text; its vertices have numbers from 0 on, in the order of their identifiers.
-    static board open_text(std::string_view game)
+    [[nodiscard]] static outcome<board> try_open_text(std::string_view game) noexcept
     {
-        board opened;
-        pgboard_report report;
-        detail::judge(pgboard_board_open_text(&opened.held, detail::bytes(game), game.size(), &report), report);
-        return opened;
+        return opened([&](auto *it, auto *report) { return pgboard_board_open_text(it, detail::bytes(game), game.size(), report); });
     }
+    [[nodiscard]] static board open_text(std::string_view game) { return detail::judged(try_open_text(game)); }
     board(board &&other) noexcept : held(std::exchange(other.held, {})) {}
     board &operator=(board other) noexcept
     {
@@ -346,37 +368,40 @@ class board {
 
     // Posts a claim; the answer says why it is refused. PGBOARD_POST_STALE is no error where others post too. After PGBOARD_POST_LOST the
     // claim was never right.
-    outcome<pgboard_posted> try_post(std::uint32_t player, span<const std::uint32_t> vertices, span<const std::uint32_t> choices,
-                                     std::uint32_t worker = 0) noexcept
+    [[nodiscard]] outcome<pgboard_posted> try_post(std::uint32_t player, span<const std::uint32_t> vertices, span<const std::uint32_t> choices,
+                                                   std::uint32_t worker = 0) noexcept
     {
         const pgboard_claim claim{sizeof claim, worker, player, vertices.data(), vertices.size(), choices.data(), choices.size()};
         outcome<pgboard_posted> found{};
         found.answer = pgboard_board_post(&held, &claim, &found.value, &found.report);
         return found;
     }
-    pgboard_posted post(std::uint32_t player, span<const std::uint32_t> vertices, span<const std::uint32_t> choices, std::uint32_t worker = 0)
+    [[nodiscard]] pgboard_posted post(std::uint32_t player, span<const std::uint32_t> vertices, span<const std::uint32_t> choices, std::uint32_t worker = 0)
     {
         return detail::judged(try_post(player, vertices, choices, worker));
     }
     // The same with lists, which last as long as the call.
-    outcome<pgboard_posted> try_post(std::uint32_t player, list vertices, list choices, std::uint32_t worker = 0) noexcept
+    [[nodiscard]] outcome<pgboard_posted> try_post(std::uint32_t player, list vertices, list choices, std::uint32_t worker = 0) noexcept
     {
         return try_post(player, {vertices.begin(), vertices.size()}, {choices.begin(), choices.size()}, worker);
     }
-    pgboard_posted post(std::uint32_t player, list vertices, list choices, std::uint32_t worker = 0)
+    [[nodiscard]] pgboard_posted post(std::uint32_t player, list vertices, list choices, std::uint32_t worker = 0)
     {
         return detail::judged(try_post(player, vertices, choices, worker));
     }
 
     // The winner and the choice of each vertex, or PGBOARD_NO_WINNER.
-    pgboard::solution state() const { return results(pgboard_board_state); }
+    [[nodiscard]] pgboard::solution state() const { return detail::judged(results(pgboard_board_state)); }
 
     // The board's game, with the identifiers of its vertices.
-    pgboard::game game() const
+    [[nodiscard]] pgboard::game game() const
     {
         const std::size_t size = static_cast<std::size_t>(vertices());
+        // (an open board has a vertex)
+        if (size == 0)
+            detail::judge(PGBOARD_BOARD_CLOSED, {});
         pgboard::game found{{}, {}, {0}, {}};
-        std::vector<std::uint32_t> row(size ? size : 1);
+        std::vector<std::uint32_t> row(size);
         for (std::size_t v = 0; v < size; v++) {
             pgboard_vertex it;
             pgboard_report report;
@@ -389,15 +414,15 @@ class board {
         return found;
     }
 
-    std::uint64_t vertices() const noexcept { return pgboard_board_vertices(&held); }
-    std::uint64_t settled() const noexcept { return pgboard_board_settled(&held); }
-    std::uint64_t entries() const noexcept { return pgboard_board_entries(&held); }
+    [[nodiscard]] std::uint64_t vertices() const noexcept { return pgboard_board_vertices(&held); }
+    [[nodiscard]] std::uint64_t settled() const noexcept { return pgboard_board_settled(&held); }
+    [[nodiscard]] std::uint64_t entries() const noexcept { return pgboard_board_entries(&held); }
     // (a journal refers to this board, which has to outlive it and not be moved)
-    pgboard::journal journal() const &noexcept { return pgboard::journal(*this); }
+    [[nodiscard]] pgboard::journal journal() const &noexcept { return pgboard::journal(*this); }
     pgboard::journal journal() const && = delete;
 
     // The entry with this number, from 0.
-    pgboard::entry entry(std::uint64_t number) const
+    [[nodiscard]] pgboard::entry entry(std::uint64_t number) const
     {
         pgboard::entry found{0, 0, 0, std::vector<std::uint32_t>(16), std::vector<std::uint32_t>(16)};
         pgboard_entry it;
@@ -420,39 +445,38 @@ class board {
     }
 
     // Settles what is left, as pgboard::solve does.
-    void finish()
+    [[nodiscard]] outcome<> try_finish() noexcept
     {
-        pgboard_report report;
-        detail::judge(pgboard_board_finish(&held, &report), report);
+        return answered([&](auto *report) { return pgboard_board_finish(&held, report); });
     }
+    void finish() { detail::judged(try_finish()); }
 
     // The same, or gives up with the answer PGBOARD_GAVE_UP if the recursion needs more steps than these.
-    [[nodiscard]] std::uint32_t try_finish_within(std::uint64_t steps) noexcept
+    [[nodiscard]] outcome<> try_finish_within(std::uint64_t steps) noexcept
     {
-        pgboard_report report;
-        return pgboard_board_finish_within(&held, steps, &report);
+        return answered([&](auto *report) { return pgboard_board_finish_within(&held, steps, report); });
     }
-    void finish_within(std::uint64_t steps) { detail::judge(try_finish_within(steps), {}); }
+    void finish_within(std::uint64_t steps) { detail::judged(try_finish_within(steps)); }
 
     // Makes one search of those that are left or, after the last one, takes up to so many steps of the recursion, and leaves in `steps`
     // the number of steps that it did not take. PGBOARD_OK once all is settled, and PGBOARD_BOARD_UNSETTLED before: call it again then.
-    [[nodiscard]] std::uint32_t try_advance(std::uint64_t &steps) noexcept
+    [[nodiscard]] outcome<> try_advance(std::uint64_t &steps) noexcept
     {
-        pgboard_report report;
-        return pgboard_board_advance(&held, &steps, &report);
+        return answered([&](auto *report) { return pgboard_board_advance(&held, &steps, report); });
     }
     // The same, as whether all is settled.
-    bool advance(std::uint64_t &steps)
+    [[nodiscard]] bool advance(std::uint64_t &steps)
     {
-        const std::uint32_t answer = try_advance(steps);
-        if (answer != PGBOARD_BOARD_UNSETTLED)
-            detail::judge(answer, {});
-        return answer == PGBOARD_OK;
+        const outcome<> found = try_advance(steps);
+        if (found.answer != PGBOARD_BOARD_UNSETTLED)
+            detail::judge(found.answer, found.report);
+        return static_cast<bool>(found);
     }
 
     // The solution of a full board, and its text.
-    pgboard::solution solution() const { return results(pgboard_board_solution); }
-    std::string solution_text() const
+    [[nodiscard]] outcome<pgboard::solution> try_solution() const { return results(pgboard_board_solution); }
+    [[nodiscard]] pgboard::solution solution() const { return detail::judged(try_solution()); }
+    [[nodiscard]] std::string solution_text() const
     {
         // (a row of the game's arrays takes up to 20 bytes)
         std::string into(static_cast<std::size_t>(vertices()) * 20 + 20, '\0');
@@ -474,9 +498,24 @@ class board {
   private:
     board() = default;
 
-    template <class Call> pgboard::solution results(Call call) const
+    // A board that a call opens, which is closed if it does not.
+    template <class Call> static outcome<board> opened(Call call) noexcept
     {
-        return detail::judged(detail::written(static_cast<std::size_t>(vertices()), [&](auto *results, auto *report) { return call(&held, results, report); }));
+        outcome<board> found{PGBOARD_OK, {}, board()};
+        found.answer = call(&found.value.held, &found.report);
+        return found;
+    }
+
+    template <class Call> static outcome<> answered(Call call) noexcept
+    {
+        outcome<> found{};
+        found.answer = call(&found.report);
+        return found;
+    }
+
+    template <class Call> outcome<pgboard::solution> results(Call call) const
+    {
+        return detail::written(static_cast<std::size_t>(vertices()), [&](auto *into, auto *report) { return call(&held, into, report); });
     }
 
     // (C's readers take a board that is not const)
@@ -489,7 +528,7 @@ inline entry journal::iterator::operator*() const
 }
 inline std::uint64_t journal::iterator::at() const noexcept
 {
-    const std::uint64_t count = of->entries();
+    const std::uint64_t count = of ? of->entries() : 0;
     return number < count ? number : count;
 }
 inline std::uint64_t journal::size() const noexcept

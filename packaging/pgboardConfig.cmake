@@ -1,4 +1,4 @@
-# The targets pgboard::pgboard, the shared library, and pgboard::pgboard_static, below the prefix of this file.
+# The targets pgboard::pgboard, the shared library, and pgboard::pgboard_static, below the prefix of this file, where its file is there.
 # (CMake may have come by /lib, a link to /usr/lib, which has no folder include beside it.)
 get_filename_component(_pgboard_here "${CMAKE_CURRENT_LIST_DIR}" REALPATH)
 get_filename_component(_pgboard_lib "${_pgboard_here}/../.." ABSOLUTE)
@@ -11,10 +11,17 @@ foreach(_pgboard_kind SHARED STATIC)
     set(_pgboard_target pgboard::pgboard_static)
     set(_pgboard_file libpgboard.a)
   endif()
-  if(NOT TARGET ${_pgboard_target})
+  if(NOT TARGET ${_pgboard_target} AND EXISTS "${_pgboard_lib}/${_pgboard_file}")
     add_library(${_pgboard_target} ${_pgboard_kind} IMPORTED)
     set_target_properties(${_pgboard_target} PROPERTIES
       IMPORTED_LOCATION "${_pgboard_lib}/${_pgboard_file}"
       INTERFACE_INCLUDE_DIRECTORIES "${_pgboard_prefix}/include")
+  endif()
+endforeach()
+# (it has no components)
+foreach(_pgboard_component ${pgboard_FIND_COMPONENTS})
+  if(pgboard_FIND_REQUIRED_${_pgboard_component})
+    set(pgboard_FOUND FALSE)
+    set(pgboard_NOT_FOUND_MESSAGE "pgboard has no component ${_pgboard_component}")
   endif()
 endforeach()

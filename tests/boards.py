@@ -9,7 +9,7 @@ import subprocess
 import sys
 import time
 import unittest
-import xml.etree.ElementTree
+import unittest.mock
 
 import common
 import embed
@@ -135,10 +135,8 @@ class Referee(Boards):
         solver = common.load(BOARD / "referee.py").Solver(
             1, "sh -c 'echo \"0 0 0;\"; setsid sleep 60 2>/dev/null &'"
         )
-        begun = time.monotonic()
-        self.assertEqual(
-            (solver.run("", 0.5, str(self.folder)), solver.how_it_ended()), ("0 0 0;\n", "ended after 0.5 s")
-        )
+        begun, guard = time.monotonic(), unittest.mock.Mock(path=str(self.folder))
+        self.assertEqual((solver.run(0.5, guard), solver.how_it_ended()), ("0 0 0;\n", "ended after 0.5 s"))
         self.assertLess(time.monotonic() - begun, 40)
 
     def test_a_full_board_ends_the_other_solvers(self):
@@ -154,34 +152,29 @@ class Referee(Boards):
         self.assertEqual(left, 0)
         self.assertLess(time.monotonic() - begun, 60)
 
-    def test_an_interrupt_ends_the_solvers_and_leaves_nothing(self):
-        scratch, pids = self.folder / "scratch", self.folder / "pids"
-        for it in (scratch, pids):
-            it.mkdir()
-        words = [
-            it
-            for at in range(3)
-            for it in (
-                "--solver", f"sh -c 'sleep 600 & echo $! > {pids}/{at}; touch {pids}/{at}.begun; wait'"
-            )
-        ]
-        how = {
-            "stdout": subprocess.PIPE, "stderr": subprocess.PIPE, "env": {**self.env, "TMPDIR": str(scratch)}
-        }
+    def test_a_signal_ends_the_solvers_and_leaves_nothing(self):
+        """Even one that the referee can't catch."""
         heeds = lambda: signal.signal(signal.SIGINT, signal.SIG_DFL)
-        command = [
-            sys.executable, "-B", BOARD / "referee.py", *words, self.file("game.pg", plain.written_game(GAME))
-        ]
-        with subprocess.Popen(command, preexec_fn=heeds, **how) as ran:
-            common.wait_until(lambda: len([*pids.glob("*.begun")]) == 3)
-            self.assertEqual(len([*scratch.iterdir()]), 1)
-            ran.send_signal(signal.SIGINT)
-            out, err = ran.communicate(timeout=60)
-        self.assertEqual((out, b"Traceback" in err), (b"", False), err)
-        self.assertIn(ran.returncode, (130, -signal.SIGINT))
-        self.assertEqual([*scratch.iterdir()], [])
-        for it in pids.glob("?"):
-            common.wait_until(lambda it=it: not common.is_alive(int(it.read_text())))
+        for number in (signal.SIGINT, signal.SIGKILL):
+            made = self.folder / str(int(number))
+            for it in ("scratch", "pids"):
+                (made / it).mkdir(parents=True)
+            solver = f"sh -c 'sleep 600 & echo $! > {made}/pids/$$; touch {made}/pids/$$.begun; wait'"
+            # (one has ended before)
+            words = [*["--solver", solver] * 3, "--solver", "true", self.file("game.pg", plain.written_game(GAME))]
+            env = {**self.env, "TMPDIR": str(made / "scratch")}
+            how = {"stdout": subprocess.PIPE, "stderr": subprocess.PIPE, "env": env, "preexec_fn": heeds}
+            with subprocess.Popen([sys.executable, "-B", BOARD / "referee.py", *words], **how) as ran:
+                common.wait_until(lambda: len([*made.glob("pids/*.begun")]) == 3)
+                said = ran.stderr.readline()
+                self.assertEqual(len([*(made / "scratch").iterdir()]), 1)
+                ran.send_signal(number)
+                out, err = ran.communicate(timeout=60)
+            self.assertEqual((out, b"Traceback" in said + err, ran.returncode), (b"", False, -number), err)
+            common.wait_until(lambda: not [*(made / "scratch").iterdir()])
+            for it in made.glob("pids/*[0-9]"):
+                for pid in (int(it.name), int(it.read_text())):
+                    common.wait_until(lambda: not common.is_alive(pid))
 
     def by_hand(self, lines, *words):
         program = "\n".join(
@@ -267,30 +260,6 @@ class Referee(Boards):
         self.assertEqual((status, err), (0, "referee: the board itself settled 3 of 3\n"))
         self.solves(GAME, out)
 
-    def test_the_picture_has_what_each_solver_settled(self):
-        path = self.folder / "run.svg"
-        solvers = [
-            f"cat {self.file('odd', '9 1 9;')}",
-            self.after(3, f"sleep 0.3; cat {self.file('even', '3 0 3;')} # <&"),
-            "false",
-        ]
-        self.referee({**GAME, 20: (1, 1, {20})}, *solvers, more=["--picture", path])
-        text = path.read_text()
-        counts = {
-            name: int(count) for count, name in re.findall(r'<text x="\d+" y="\d+">(\d+) (.*?)</text>', text)
-        }
-        names = ["the board itself", *(it.replace("&", "&amp;").replace("<", "&lt;") for it in solvers)]
-        self.assertEqual(counts, dict(zip(names, [1, 1, 2, 0])))
-        # four vertices are 340 units high, and each line goes up by as many as its worker settled
-        for worker, count in enumerate([1, 1, 2, 0]):
-            steps = re.search(rf'id="worker{worker}" d="M80,360\.0((?:H[\d.]+V[\d.]+)*)H720"', text)[1]
-            places = [(float(x), float(y)) for x, y in re.findall(r"H([\d.]+)V([\d.]+)", steps)]
-            self.assertEqual([y for _, y in places], [360 - 85 * count] * bool(count))
-            self.assertTrue(all(80 <= x <= 720 for x, _ in places))
-            if worker == 2:
-                self.assertGreater(places[0][0], 200)
-        self.assertEqual(xml.etree.ElementTree.fromstring(text).tag, "{http://www.w3.org/2000/svg}svg")
-
     def test_what_is_refused(self):
         good = str(self.file("game.pg", plain.written_game(GAME)))
         bad = str(self.file("bad.pg", "0 0 0 7;"))
@@ -301,7 +270,6 @@ class Referee(Boards):
             (2, "referee: --solver sh -c 'x: No closing quotation", "--solver", "sh -c 'x", good),
             (2, "referee: --solver: there is no command", "--solver", " ", good),
             (2, r"[\s\S]*argument --time: invalid number of seconds .* value: '0'", "--time", "0", good),
-            (2, r"[\s\S]*argument --picture: .* \(.svg\) value: 'run.png'", "--picture", "run.png", good),
         ):
             with self.subTest(words):
                 found, out, err = self.run_script(*words)
@@ -310,11 +278,6 @@ class Referee(Boards):
         status, out, err = self.run_script(good, PGBOARD_LIBRARY="/nowhere.so")
         self.assertEqual((status, out), (4, b""))
         self.assertRegex(err, "^referee: pgboard: its library can't be loaded .*\n$")
-        # (a solution comes before a picture that can't be written)
-        status, out, err = self.run_script("--picture", "no/run.svg", good)
-        said = "referee: no/run.svg: No such file or directory"
-        self.assertEqual((status, err.splitlines()[-1]), (4, said))
-        self.solves(GAME, out)
         status, _, err = self.run_script("--solver", "/nowhere\n{game}", good)
         said = r"referee: solver 1 (/nowhere\n{game}): /nowhere: No such file or directory" + "\n"
         self.assertEqual((status, err), (0, f"{said}referee: the board itself settled 3 of 3\n"))
@@ -434,13 +397,11 @@ class Outside(Boards):
     def long(self):
         return self.file("long.pg", "".join(f"{v} {v} 0 {v};\n" for v in range(500_000)))
 
-    @unittest.skipIf(embed.OTHER, "another library is tested")
     def test_the_commands_of_the_page(self):
         page = common.text_of("examples", "README.md").split("`board/outside.cpp`")[1].split("\n## ")[0]
         commands = re.findall(r"(?m)^\$ (.*)$", page)
-        for name in ("crates", "include", "examples"):
-            (self.folder / name).symlink_to((common.PROVED if name == "crates" else common.ROOT) / name)
-        shell = ["bash", "-e", "-c", "\n".join(commands)]
+        embed.give_clone(self.folder, "include", "examples")
+        shell = ["bash", "-e", "-c", embed.without_build("\n".join(commands))]
         status, out, err = common.run(shell, timeout=3000, cwd=self.folder)
         self.assertEqual((status, len(commands)), (0, 3), out + err)
         game = plain.game_of(common.text_of("examples", "requests.pg").encode())
@@ -463,12 +424,9 @@ class Library(Boards):
         return status, out.decode().splitlines()
 
     def test_the_command_of_the_page_prints_its_table(self):
-        page = common.text_of("docs/BENCHMARKS.md")
-        words = re.findall(r"(?m)^bench/library_calls (.+)$", page)
-        heads = re.findall(r"(?m)^(\| game \| `solve` in memory.*)$", page)
-        self.assertEqual((len(words), len(heads)), (1, 1))
-        status, shown = self.table(*words[0].split())
-        self.assertEqual((status, shown[0]), (0, heads[0]), shown)
+        (words,) = re.findall(r"(?m)^bench/library_calls (.+)$", common.text_of("docs/BENCHMARKS.md"))
+        status, shown = self.table(*words.split())
+        self.assertEqual((status, shown[0]), (0, f"| {' | '.join(self.bench.HEADS)} |"), shown)
         self.assertRegex(shown[2], r"^\| own_loops( \| -?[0-9.]+( \(-?[0-9.]+\))?){4} \|$")
 
     def test_a_solution_that_the_program_refuses_is_named(self):

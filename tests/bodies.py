@@ -7,9 +7,11 @@ Only the allocator's error may make a value that says that memory was refused; a
 """
 
 import re
+import shutil
 import unittest
 
 import common
+import unit
 
 # a value or a pattern that says that memory was refused
 SAYS = re.compile(r"\b\w+::Memory\b|(?<!: )(?<!-> )\b(?:AllocError|Memory)\b(?!>)")
@@ -48,38 +50,89 @@ class Memory(unittest.TestCase):
             self.assertEqual([*wrong_lines(f"fn f() -> Fault {{\n{line}\n}}")], [line])
 
 
-def leave_one_test(folder, test):
-    for path in folder.glob("src/**/*.rt"):
-        text = path.read_text()
-        other = rf"(?ms)^(?:///[^\n]*\n)*#\[test\]\nfn (?!{test}\().*?^}}\n"
-        path.write_text(re.sub(other, "", text))
+def edited(text, pairs):
+    for (_, old), (_, new) in zip(pairs[::2], pairs[1::2], strict=True):
+        assert text.count(old) == 1, old
+        text = text.replace(old, new)
+    return text
+
+
+class Build:
+    """A copy of the crates whose crate of tests has tests of several wrong bodies, each over copies of its own."""
+
+    def __init__(self, folder, tests):
+        common.copy_crates(folder)
+        self.crates, self.tests, self.list = folder / "crates", tests, folder / "crates.txt"
+        lines = re.findall(r"(?m)^(\w+)(?: \w+)?: (.*)$", self.list.read_text())
+        self.uses, self.used, self.sources = {it: used.split() for it, used in lines}, set(), folder / "sources"
+        (self.crates / tests / "src").rename(self.sources)
+
+    def uses_it(self, crate, other):
+        return crate == other or any(self.uses_it(it, other) for it in self.uses.get(crate, []))
+
+    def copy(self, sources, to, new, pairs={}):
+        """Copies sources, with wrong bodies and with the new names of crates and modules."""
+        for path in sources.glob("**/*.rt"):
+            text = edited(path.read_text(), pairs.get(path, []))
+            at = to / re.sub(r"^tests\b", new.get("tests", "tests"), str(path.relative_to(sources)))
+            at.parent.mkdir(parents=True, exist_ok=True)
+            at.write_text(re.sub(r"\b\w+\b", lambda it: new.get(it[0], it[0]), text))
+
+    def add(self, mark, file, pairs, *tests):
+        """Copies the crates from that of the wrong body up, and the tests."""
+        file = self.crates.parent / file
+        first = file.relative_to(self.crates).parts[0]
+        above = [it for it in self.uses if self.uses_it(it, first) and self.uses_it(self.tests, it)]
+        new = {it: f"{it}_{mark}" for it in above if it != self.tests}
+        for it in new:
+            self.copy(self.crates / it / "src", self.crates / new[it] / "src", new, {file: pairs})
+            with self.list.open("a") as lines:
+                lines.write(f"{new[it]}: {' '.join(new.get(used, used) for used in self.uses[it])}\n")
+        self.used |= {new.get(it, it) for it in self.uses[self.tests]}
+        left = self.crates.parent / mark
+        shutil.copytree(self.sources, left)
+        unit.leave_tests(left, *tests)
+        self.copy(left, self.crates / self.tests / "src", new | {"tests": f"tests_{mark}"})
+
+    def run(self, marks):
+        """What rt says of all tests. What macros of assertions call is in the module `tests`."""
+        top = self.crates / self.tests / "src"
+        (top / "tests").mkdir()
+        shutil.copy(self.sources / "tests" / "asserting.rt", top / "tests")
+        (top / "tests.rt").write_text("pub mod asserting;\n")
+        modules = "".join(f"#[cfg(test)]\nmod {it};\n" for it in ["tests", *(f"tests_{it}" for it in marks)])
+        (top / "lib.rt").write_text(f"#![tactic(auto)]\n\n{modules}")
+        text = re.sub(rf"(?m)^({self.tests}:).*$", rf"\1 {' '.join(sorted(self.used))}", self.list.read_text())
+        self.list.write_text(text)
+        return unit.try_tests(self.crates / self.tests)
 
 
 @common.needs("rt")
 class WrongBodies(unittest.TestCase):
     def test_each_fails_its_test(self):
-        edits = sorted((common.ROOT / "tests" / "wrong_bodies").iterdir())
+        """Those of one crate of tests are built together, beside a copy without a wrong body."""
+        edits = {}
+        for path in sorted((common.ROOT / "tests" / "wrong_bodies").iterdir()):
+            (_, file), *pairs, (_, test) = (line.split(": ", 1) for line in path.read_text().splitlines())
+            tests, test = test.split()
+            edits.setdefault(tests, []).append((path.stem, file, pairs, test))
         self.assertTrue(edits)
-        for path in edits:
-            with self.subTest(path.stem):
-                self.judge([line.split(": ", 1) for line in path.read_text().splitlines()])
+        for tests, rows in edits.items():
+            self.judge(Build(common.make_folder(self), tests), {f"b{at}": row for at, row in enumerate(rows)})
 
-    def judge(self, lines):
-        folder = common.make_folder(self)
-        common.copy_crates(folder)
-        (_, file), *pairs, (_, test) = lines
-        text = (folder / file).read_text()
-        for (_, old), (_, new) in zip(pairs[::2], pairs[1::2], strict=True):
-            self.assertEqual(text.count(old), 1)
-            text = text.replace(old, new)
-        (folder / file).write_text(text)
-        crate, test = test.split()
-        leave_one_test(folder / "crates" / crate, test)
-        # (without proofs a test takes long: a minute, on a slow machine, is not enough for each)
-        words = ["rt", "try", "--test", "--seconds", "600"]
-        _, out, err = common.run(words, timeout=1800, cwd=folder / "crates" / crate)
-        said = (out + err).decode(errors="replace")
-        self.assertEqual(re.findall(r"(?m)^test \S*::(\w+) \.\.\. .*?(\w+)$", said), [(test, "FAILED")], said)
+    def judge(self, build, rows):
+        for mark, (_, *row) in rows.items():
+            build.add(mark, *row)
+        tests = {test for *_, test in rows.values()}
+        build.add("right", rows["b0"][1], [], *tests)
+        said, found = build.run([*rows, "right"])
+        ends = {(path.split("::")[0], path.split("::")[-1]): end for path, end in found}
+        for mark, (name, *_, test) in rows.items():
+            with self.subTest(name):
+                self.assertEqual(ends.get((f"tests_{mark}", test)), "FAILED", said)
+        for test in tests:
+            with self.subTest(test):
+                self.assertEqual(ends.get(("tests_right", test)), "ok", said)
         # (a test that does not end has not failed as it should)
         self.assertNotIn("no-answer", said)
 

@@ -1,5 +1,8 @@
 #!/usr/bin/env python3
-"""Has rt prove and build the C library in a copy of the crates: tests/build_library.py FOLDER"""
+"""Has rt prove and build the C library in a copy of the crates: tests/build_library.py FOLDER
+
+Outside the gate the scripts take the one without proofs, which is built when it is older than its sources.
+"""
 
 import contextlib
 import os
@@ -51,19 +54,24 @@ def take_as_built(tree, above):
 
 def build(tree):
     take_as_built(tree, "pgboard_c")
-    crate = pathlib.Path(tree, "crates", "pgboard_c")
-    status, out, err = common.run(["rt", "lib", "--jobs", "1"], timeout=3000, cwd=crate)
-    assert status == 0, (out + err).decode()[-2000:]
-    return crate / "out" / "libpgboard_c.a"
+    for words, folder in ((["rt", "lib", "--jobs", "1"], "crates/pgboard_c"), (["tools/build", "proved", "library"], "")):
+        status, out, err = common.run(words, timeout=3000, cwd=tree / folder)
+        assert status == 0, (out + err).decode()[-2000:]
+    return common.library("proved", tree)
 
 
 def built():
-    if common.PROVED == common.ROOT:
-        return build(common.ROOT)
-    return common.PROVED / "crates" / "pgboard_c" / "out" / "libpgboard_c.a"
+    """The archive under test: the one of PGBOARD_ARCHIVE, the one that the gate has proved, or the one without proofs."""
+    if os.environ.get("PGBOARD_ARCHIVE"):
+        return pathlib.Path(os.environ["PGBOARD_ARCHIVE"])
+    if common.PROVED != common.ROOT:
+        return common.library("proved", common.PROVED)
+    return common.unproved("library")
 
 
 if __name__ == "__main__":
     common.copy_crates(common.PROGRAM)
+    for name in ("tools", "include"):
+        (common.PROGRAM / name).symlink_to(common.ROOT / name)
     print(build(common.PROGRAM))
     print("1 passed, 0 failed")

@@ -32,6 +32,8 @@ class Circuit:
         self.judge(gates)
         names = self.names()
         self.read_names, self.write_names = names[:inputs], names[inputs + latches :]
+        bits = [f"state_{it}" for it in range(latches)]
+        demand(names[inputs : inputs + latches] == bits, "the names of its latches")
         self.first = (0,) * latches
 
     def numbers(self, count):

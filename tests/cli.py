@@ -366,6 +366,11 @@ class EveryByte(unittest.TestCase):
         game, solutions = b"0 0 0 0;", (b"0%c0 0;" % byte for byte in range(256))
         self.judge({game + b"%" + it: plain.verified(game, it) for it in solutions})
 
+    def test_the_smallest_game_cut_at_every_length(self):
+        text, fault = b"parity 0;\n0 0 0 0;\n", lambda at: plain.refused("game", f"byte {at}: not expected")
+        answer = lambda length: (0, text, b"") if length > 17 else fault(length if length > 5 else 0)
+        self.judge({text[:length]: answer(length) for length in range(20)}, "tidy")
+
     def test_texts_cut_at_every_length(self):
         cuts = lambda text: (text[:length] for length in range(len(text) + 1))
         self.judge({it: plain.tidied(it) for it in cuts(NAMED)}, "tidy")

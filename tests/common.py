@@ -29,9 +29,30 @@ READ_FAULT, NO_MEMORY = (4, b"", b"pgboard: read fault\n"), (5, b"", b"pgboard: 
 BUILT = ROOT / "crates" / "pgboard_program" / "out" / "pgboard_program"
 
 
+def library(kind, tree=ROOT):
+    return tree / "out" / kind / "libpgboard_c.a"
+
+
+def is_new(built):
+    """Whether a program or a library is there, and no source of it is newer."""
+    other = r"_tests/|_support/|pgboard_c/" if "lib" not in built.name else r"_tests/|_support/|pgboard(_program)?/"
+    sources = [ROOT / "crates.txt", *(it for it in ROOT.glob("crates/*/src/**/*.rt") if not re.search(other, str(it)))]
+    return built.exists() and built.stat().st_mtime >= max(it.stat().st_mtime for it in sources)
+
+
+def unproved(*what):
+    """The program, or the `library`, without proofs, which is built unless it is new."""
+    built = library("unproved") if what else ROOT / "out" / "unproved" / "pgboard"
+    if not is_new(built):
+        how = {"stdin": subprocess.DEVNULL, "stdout": subprocess.DEVNULL, "check": True}
+        subprocess.run([ROOT / "tools" / "build", "unproved", *what], **how)
+    return built
+
+
 def last_built():
-    programs = [BUILT, ROOT / "out" / "proved" / "pgboard", ROOT / "out" / "unproved" / "pgboard"]
-    return max(programs, key=lambda it: it.stat().st_mtime if it.exists() else 0)
+    """A new proved program, else the one without proofs."""
+    proved = [it for it in (BUILT, ROOT / "out" / "proved" / "pgboard") if is_new(it)]
+    return max(proved, key=lambda it: it.stat().st_mtime) if proved else unproved()
 
 
 # the first word of a script may be the path of another one, which the environment has for the scripts that it runs
@@ -120,13 +141,13 @@ def is_alive(pid):
 
 @functools.lru_cache(maxsize=None)
 def is_checked():
-    """Whether the program under test has run-time checks: it is some 200 times slower, and a signal ends it."""
-    return b"\nbuild: unproved, " in program("--version")[1]
+    """Whether the program under test has the checks of `rt try`: it is some 200 times slower."""
+    return b"\nbuild: unproved (asan), " in program("--version")[1]
 
 
 def needs_speed(test):
-    """Leaves out a test, or a class of tests, that takes too much of a program with run-time checks."""
-    return unittest.skipIf(is_checked(), "the program has run-time checks")(test)
+    """Leaves out a test, or a class of tests, that takes too much of a program with the checks of `rt try`."""
+    return unittest.skipIf(is_checked(), "the program checks each access to memory")(test)
 
 
 def needs(*tools):
@@ -153,13 +174,19 @@ def load_tests_of_table(case, rows, judge):
 
 
 class Result(unittest.TextTestResult):
-    """Counts the rows of a table, each a subTest, in place of the test that has them."""
+    """Counts the rows of a table, each a subTest, in place of the test that has them; says what takes a second."""
 
     passed = rows = 0
 
     def startTest(self, test):
         super().startTest(test)
-        self.rows = 0
+        self.rows, self.began = 0, time.monotonic()
+
+    def stopTest(self, test):
+        super().stopTest(test)
+        took = time.monotonic() - self.began
+        if took >= 1:
+            print(f"took {took:.1f} s: {test.id().partition('.')[2]}")
 
     def addSubTest(self, test, subtest, err):
         super().addSubTest(test, subtest, err)

@@ -2,14 +2,15 @@
 """Builds the static library, and looks at what C and Python see of it."""
 
 import collections
+import ctypes
 import itertools
 import os
-import pathlib
+import random
 import re
-import shlex
 import shutil
 import sys
 import unittest
+from array import array
 
 import build_library
 import common
@@ -18,18 +19,34 @@ import pages
 import plain
 import plain_board
 
+sys.path.append(str(common.ROOT / "bindings" / "python"))
+from pgboard import native  # noqa: E402
+
 CRATE = common.ROOT / "crates" / "pgboard_c"
-KIT = pathlib.Path(common.run(["rt", "doc"])[1].decode()).parent
-OTHER = os.environ.get("PGBOARD_ARCHIVE")
-ARCHIVES = [OTHER or CRATE / "out" / "libpgboard_c.a", KIT / "c" / "liblibc_c.a"]
+ARCHIVES = []
 # games on which eight threads post
 THREADED = 100
 # games of the tests of boards that are finished part by part, and of boards of texts
 ADVANCED, SPELLED = 3000, 500
 NO_CHOICE, NO_WINNER = 2**32 - 1, 255
 WARNINGS = ["-Wall", "-Wextra", "-Werror", "-pedantic", "-Iinclude"]
+STRICT = {"c": ["-Wshadow", "-Wconversion"]}
+STRICT["c++"] = [*STRICT["c"], "-Wzero-as-null-pointer-constant"]
 FLAGS = ["-std=c11", *WARNINGS, "-O1"]
 REFUSING = ["-Wl,--wrap=malloc,--wrap=realloc"]
+# calls of C++ whose value is dropped
+DROPPED = """
+pgboard::solve(game); pgboard::solve(game, known); pgboard::solve_within(game, 1); pgboard::solve_within(game, known, 1);
+pgboard::try_solve(game); pgboard::try_solve(game, known); pgboard::try_solve_within(game, 1);
+pgboard::try_solve_within(game, known, 1); pgboard::try_check(game, known); pgboard::try_verify_text("", "");
+pgboard::solve_text(""); pgboard::try_solve_text(""); pgboard::tidy_text(""); pgboard::try_tidy_text("");
+pgboard::board::open_text(""); pgboard::board::try_open(game); pgboard::board::try_open_text("");
+board.post(0, {0}, {0}); board.try_post(0, {0}, {0}); board.post(0, rows, rows); board.try_post(0, rows, rows);
+board.state(); board.game(); board.vertices(); board.settled(); board.entries(); board.entry(0); board.journal();
+board.journal().begin(); board.journal().end(); board.journal().size(); board.journal()[0];
+board.try_finish(); board.try_finish_within(1); board.try_advance(steps); board.advance(steps);
+board.solution(); board.try_solution(); board.solution_text();
+"""
 SANITIZERS = ["-fsanitize=address,undefined", "-fno-sanitize-recover=all", "-g"]
 HEADER = common.text_of("include/pgboard.h")
 
@@ -116,32 +133,30 @@ def run(words, given=b""):
 
 
 def build_archive(folder):
-    """Proves and builds the static library, unless another one is named, and copies it to a folder.
-
-    (Another script may build it again.)
-    """
-    if not OTHER:
-        made = build_library.built()
-        with build_library.locked(common.PROVED):
-            ARCHIVES[0] = shutil.copy(made, folder)
+    """Copies the static library under test to a folder. (Another script may build it again.)"""
+    ARCHIVES[:] = [shutil.copy(build_library.built(), folder)]
 
 
 def build_shared(folder):
     shared = folder / "libpgboard.so"
-    status, _, err = run(
-        [
-            "cc",
-            "-shared",
-            "-o",
-            shared,
-            "-Wl,--whole-archive",
-            ARCHIVES[0],
-            "-Wl,--no-whole-archive",
-            ARCHIVES[1],
-        ]
-    )
+    words = ["-Wl,--whole-archive", *ARCHIVES, "-Wl,--no-whole-archive"]
+    status, _, err = run(["cc", "-shared", "-o", shared, *words])
     assert status == 0, err
     return shared
+
+
+def give_clone(folder, *names):
+    """What commands of the pages take of a clone: some folders, and the library under test where one without proofs is."""
+    for name in names:
+        (folder / name).symlink_to(common.ROOT / name)
+    made = common.library("unproved", folder)
+    made.parent.mkdir(parents=True)
+    made.symlink_to(ARCHIVES[0])
+
+
+def without_build(commands):
+    """Commands of a page but for the line that builds the library, which launcher.py runs."""
+    return commands.replace("./pgboard --unproved --library\n", "", 1)
 
 
 class PlainBoard(unittest.TestCase):
@@ -170,51 +185,29 @@ class Embed(unittest.TestCase):
         self.assertEqual(status, 0, err)
 
     def test_the_header_declares_what_the_crate_exports(self):
-        declared = re.findall(r"(?ms)^(?:uint32_t|uint64_t|void) (\w+)\([^;]*;", HEADER)
+        declared = re.findall(r"(?ms)^(?:uint32_t|uint64_t|size_t|void) (\w+)\([^;]*;", HEADER)
         crate = "".join(path.read_text() for path in (CRATE / "src").glob("*.rt"))
         self.assertEqual(sorted(declared), sorted(re.findall(r'pub extern "C" fn (\w+)', crate)))
-        self.assertEqual(len(declared), 26)
-
-    def test_the_manual_page_has_the_calls_and_structs_of_the_header(self):
-        page = common.text_of("packaging/man/pgboard.3")
-        # (words in turns bold and slanted; what is in quotes is one)
-        lines = [
-            "".join(shlex.split(line[4:]))
-            if line.startswith(".BI ")
-            else re.sub(r"^\.B ", "", line) for line in page.splitlines()
-        ]
-        in_one = lambda text: re.sub(r"\s+", " ", text)
-        shown = in_one("\n".join(lines).split(".SH DESCRIPTION")[0])
-        calls = {in_one(it) for it in re.findall(r"(?ms)^(?:uint32_t|uint64_t|void) [^;]*;", HEADER)}
-        calls |= {f"{it};" for it in re.findall(r"(?m)^PGBOARD_INLINE (const char .*\))$", HEADER)}
-        self.assertEqual(len(calls), 28)
-        structs = {in_one(it) for it in re.findall(r"(?ms)^struct \w+ \{.*?^\};", HEADER)}
-        self.assertEqual(len(structs), 10)
-        self.assertEqual(set(re.findall(r"(?:const char \*|\w+ )pgboard_\w+\([^;{]*\);", shown)), calls)
-        self.assertEqual(set(re.findall(r"struct \w+ \{[^}]*\};", shown)), structs)
-        names = {re.search(r"(pgboard_\w+)\(", it)[1] for it in calls}
-        self.assertEqual(set(re.findall(r"\bpgboard_\w+", page.split(".SH LIBRARY")[0])), names)
+        self.assertEqual(len(declared), 28)
 
     def test_the_versions_are_the_programs(self):
         found = dict(re.findall(r"(?m)^#define PGBOARD_VERSION_(\w+) (\d+)$", HEADER))
         printed = run([common.PROGRAM, "--version"])[1].split()[1]
         self.assertEqual(".".join(found[it] for it in ("MAJOR", "MINOR", "PATCH")), printed)
         self.assertIn(f'__version__ = "{printed}"', common.text_of("bindings/python/pgboard/version.py"))
+        self.assertIn(f'\nversion = "{printed}"\n', common.text_of("bindings/rust/Cargo.toml"))
 
     def test_the_header_in_c_and_cpp(self):
         source = self.folder / "header.c"
-        source.write_text('#include "pgboard.h"\nint main(void) { return pgboard_strerror(0) == 0; }\n')
-        flags = {"-xc": ["c89", "c99", "c11", "c17"], "-xc++": ["c++98", "c++11", "c++17", "c++20"]}
+        program = "struct pgboard_board board = PGBOARD_BOARD;\nint main(void) { return !pgboard_strerror(0); }\n"
+        source.write_text(f'#include "pgboard.h"\n{program}')
+        flags = {"c": ["c89", "c99", "c11", "c17"], "c++": ["c++98", "c++11", "c++17", "c++20"]}
         for compiler in common.installed("gcc", "clang"):
             for language, standards in flags.items():
                 for standard in standards:
+                    words = [f"-x{language}", f"-std={standard}", *WARNINGS, *STRICT[language]]
                     with self.subTest(compiler, standard=standard):
-                        self.assertEqual(
-                            run(
-                                [compiler, language, f"-std={standard}", *WARNINGS, "-fsyntax-only", source]
-                            )[::2],
-                            (0, ""),
-                        )
+                        self.assertEqual(run([compiler, *words, "-fsyntax-only", source])[::2], (0, ""))
 
     def test_a_null_pointer_and_an_answer_not_looked_at_give_warnings(self):
         given = "struct pgboard_results *results, struct pgboard_report *report"
@@ -299,12 +292,22 @@ class Embed(unittest.TestCase):
         for compiler, standard in itertools.product(common.installed("g++", "clang++"), ("c++17", "c++20")):
             with self.subTest(compiler, standard=standard):
                 test = self.folder / f"{compiler}-{standard}"
-                flags = [f"-std={standard}", *WARNINGS, *REFUSING, *(SANITIZERS if compiler == "g++" else [])]
+                flags = [f"-std={standard}", *WARNINGS, *STRICT["c++"], *REFUSING, *(SANITIZERS if compiler == "g++" else [])]
                 self.assertEqual(
                     run([compiler, *flags, "tests/embed/test.cpp", *ARCHIVES, "-o", test, "-lpthread"])[::2],
                     (0, ""),
                 )
                 self.passes(test)
+
+    def test_a_value_of_cpp_that_is_dropped_gives_a_warning(self):
+        calls = re.findall(r"\S[^;]*;", DROPPED)
+        given = "pgboard::game &game, pgboard::solution &known, pgboard::board &board, std::vector<std::uint32_t> &rows, std::uint64_t &steps"
+        source = self.folder / "dropped.cpp"
+        source.write_text("\n".join([f'#include "pgboard.hpp"\nvoid f({given}) {{', *calls, "}"]))
+        for compiler in common.installed("g++", "clang++"):
+            _, _, err = run([compiler, "-std=c++17", *WARNINGS, "-Wno-error", "-fsyntax-only", source])
+            lines = re.findall(r"dropped\.cpp:(\d+):.* warning: .*\[-Wunused", err)
+            self.assertEqual([calls[int(it) - 3] for it in lines], calls, compiler)
 
     def passes(self, test, *words):
         status, out, err = run([test, *words])
@@ -312,8 +315,7 @@ class Embed(unittest.TestCase):
         self.assertRegex(out, r"(?m)^[1-9]\d* passed, 0 failed$")
 
     def test_the_programs_of_the_page_and_the_one_that_it_names(self):
-        for name in ("crates", "include"):
-            (self.folder / name).symlink_to((common.PROVED if name == "crates" else common.ROOT) / name)
+        give_clone(self.folder, "include")
         stop = common.text_of("examples/board/stop.c")
         more = {"c": [(stop, "".join(re.findall(r"(?m)^ \*     (.*\n)", stop)))], "cpp": []}
         warned = {"c": ["cc", "-std=c11"], "cpp": ["c++", "-std=c++17"]}
@@ -324,7 +326,7 @@ class Embed(unittest.TestCase):
                 source = self.folder / f"embed.{language}"
                 source.write_text(program)
                 self.assertEqual(run([*warned[language], *WARNINGS, "-fsyntax-only", source])[::2], (0, ""))
-                status, out, err = common.run(["bash", "-e", "-c", commands], timeout=3000, cwd=self.folder)
+                status, out, err = common.run(["bash", "-e", "-c", without_build(commands)], cwd=self.folder)
                 self.assertEqual(status, 0, out + err)
                 self.assertEqual(run([f"{self.folder}/embed"]), (0, printed, ""))
 
@@ -338,6 +340,87 @@ class Embed(unittest.TestCase):
                 self.assertRegex(err, rb"\nRan [1-9]")
                 if common.IS_GATE and python == sys.executable:
                     self.assertNotIn(b"skipped=", err)
+
+
+@unittest.skipIf(common.PROVED == common.ROOT, "no proved library to compare with")
+class Unproved(unittest.TestCase):
+    """The library without proofs gives the bytes that the proved one gives."""
+
+    @classmethod
+    def setUpClass(cls):
+        cls.folder = common.make_folder(cls)
+        build_archive(cls.folder)
+        cls.paths = build_shared(cls.folder), common.unproved("library").with_name("libpgboard.so")
+        cls.libraries = [native.load(str(it), library_version()) for it in cls.paths]
+
+    def test_its_symbols_are_those_of_the_header_and_what_says_that_it_is_unproved(self):
+        named = run(["nm", "--dynamic", "--defined-only", "--format=posix", self.paths[1]])[1]
+        declared = re.findall(r"(?ms)^(?:uint32_t|uint64_t|size_t|void) (\w+)\([^;]*;", HEADER)
+        self.assertEqual(set(re.findall(r"(?m)^(pgboard_\w+)", named)), {*declared, "pgboard_unproved"})
+        self.assertRegex(self.paths[1].read_bytes(), rb"\0unproved, commit [0-9a-f]{40}(-dirty)?\0")
+
+    def test_random_calls_on_arrays_texts_and_boards(self):
+        answers = collections.Counter()
+        for seed in range(3000):
+            proved, unproved = (list(random_calls(it, random.Random(seed))) for it in self.libraries)
+            self.assertEqual(proved, unproved, seed)
+            answers.update(name for name, answer, *_ in proved if answer == 0)
+        # (each call succeeded now and then)
+        self.assertEqual(len(answers), 14, answers)
+
+
+def library_version():
+    found = dict(re.findall(r"(?m)^#define PGBOARD_VERSION_(\w+) (\d+)$", HEADER))
+    return int(found["MAJOR"]) * 10000 + int(found["MINOR"]) * 100 + int(found["PATCH"])
+
+
+def random_calls(library, chance):
+    """Calls of a library on a random game, some of whose arrays are wrong. Yields each name, answer and what it has written."""
+    n, wrong = chance.randint(1, 12), lambda: chance.random() < 0.02
+    ints = lambda code, count, most: array(code, [chance.randrange(most + wrong()) for _ in range(count)])
+    targets = [sorted(chance.sample(range(n), chance.randint(1, min(3, n)))) for _ in range(n)]
+    starts = array("I", itertools.accumulate(map(len, targets), initial=wrong()))
+    game = [ints("B", n, 2), ints("I", n, 9), starts, array("I", itertools.chain(*targets))]
+    winners, choices, report = array("B", bytes(n)), array("I", [0] * n), native.REPORT()
+    results = native.struct_of((winners, choices))
+    text = "".join(f"{v} {p} {o} {','.join(map(str, row))};\n" for v, p, o, row in zip(range(n), game[1], game[0], targets))
+    text, buffer, size = array("B", (text[wrong() :]).encode()), array("B", bytes(30 * n + 9)), native.REPORT()
+
+    def call(name, *arguments):
+        answer = getattr(library, f"pgboard_{name}")(*arguments, report)
+        return name, answer, *report, winners.tobytes(), choices.tobytes(), buffer.tobytes(), size[0]
+
+    given = native.struct_of(game)
+    yield call("solve_within", given, chance.randrange(40), results)
+    yield call("solve", given, results)
+    known = array("B", winners), array("I", choices)
+    for at in chance.sample(range(n), chance.randrange(n + 1)):
+        known[0][at] = chance.choice((NO_WINNER, 0, 1))
+    yield call("check", given, native.struct_of(known))
+    yield call("solve_known", given, native.struct_of(known), results)
+    solution = "".join(f"{v} {winners[v]}{'' if choices[v] > n else f' {choices[v]}'};" for v in range(n))
+    solution = array("B", solution[wrong() :].encode())
+    yield call("tidy_text", *native.span_of(text), *native.span_of(buffer), size)
+    yield call("verify_text", *native.span_of(text), *native.span_of(solution))
+    board, posted, steps = ctypes.create_string_buffer(16), native.REPORT(), ctypes.c_uint64(chance.randrange(9))
+    yield call("board_open", board, given)
+    for _ in range(4):
+        vertices = array("I", sorted(chance.sample(range(n), chance.randint(1, n))))
+        player = chance.randrange(2)
+        of = lambda v: chance.choice(targets[v]) if game[0][v] == player or wrong() else NO_CHOICE
+        claim = vertices, array("I", map(of, vertices))
+        posted = (ctypes.c_uint64 * 3)()
+        yield (*call("board_post", board, native.struct_of(claim, 7, player), posted), *posted)
+    yield call("board_state", board, results)
+    yield (*call("board_advance", board, ctypes.byref(steps)), steps.value)
+    yield call("board_finish", board)
+    yield call("board_solution", board, results)
+    yield call("board_solution_text", board, *native.span_of(buffer), size)
+    for number in range(library.pgboard_board_entries(board)):
+        entry, rows = ctypes.create_string_buffer(24), [array("I", [0] * n) for _ in range(2)]
+        spans = (it for held in rows for it in native.span_of(held))
+        yield *call("board_entry", board, number, entry, *spans), entry.raw, *(it.tobytes() for it in rows)
+    library.pgboard_board_close(board)
 
 
 if __name__ == "__main__":

@@ -30,12 +30,24 @@ def offers():
 
 
 class Help(unittest.TestCase):
-    def test_the_man_page_is_as_it_is_made(self):
-        maker = common.load(common.ROOT / "tools/help")
-        made = maker.made(common.PROGRAM)
-        self.assertEqual(common.text_of("packaging/man/pgboard.1"), made, "run tools/help PROGRAM")
+    MAKER = common.load(common.ROOT / "tools/help")
+
+    def test_the_man_pages_are_as_they_are_made(self):
+        for name, made in {"1": self.MAKER.made(common.PROGRAM), "3": self.MAKER.made_of_header()}.items():
+            self.assertEqual(common.text_of(f"packaging/man/pgboard.{name}"), made, "run tools/help PROGRAM")
         # (a line that begins with a dot or a quote would be taken for a command)
-        self.assertEqual(maker.roff("./pgboard\n'quoted"), "\\&./pgboard\n\\&'quoted")
+        self.assertEqual(self.MAKER.plain("./pgboard\n'quoted"), "\\&./pgboard\n\\&'quoted")
+
+    def test_the_man_page_of_the_calls_has_all_that_the_header_declares(self):
+        header, page = common.text_of("include/pgboard.h"), common.text_of("packaging/man/pgboard.3")
+        named = re.findall(r"(?m)^(?!\s|[#/]).*?\b(pgboard_\w+)\(", header)
+        self.assertEqual(re.findall(r"\bpgboard_\w+", page.split(".SH LIBRARY")[0]), named)
+        self.assertEqual(re.findall(r"\bpgboard_\w+(?=\()", page.split(".SH DESC")[0]), named)
+        entries = re.findall(r"(?m)^\.TP\n\.B (.*)$", page)
+        listed = {name for it in entries for name in re.findall(r"\b(?:struct )?pgboard_\w+|\bPGBOARD_\w+\b", it)}
+        macros = {*re.findall(r"(?m)^ *#define (PGBOARD_\w+)", header)} - {"PGBOARD_H", "PGBOARD_CALL", "PGBOARD_INLINE"}
+        self.assertEqual(listed, {*named, *macros, *re.findall(r"(?m)^(struct \w+) \{", header)})
+        self.assertLessEqual({*named}, {*re.findall(r"`(pgboard_\w+)`", common.text_of("docs/C.md"))})
 
     def test_the_man_page_has_each_flag(self):
         page = common.text_of("packaging/man/pgboard.1").replace("\\-", "-").split(".SH OPTIONS\n")[1]

@@ -2,6 +2,7 @@
 """Shows that ./package makes what a machine without the kit can use."""
 
 import gzip
+import itertools
 import os
 import pathlib
 import re
@@ -23,7 +24,8 @@ WHO = ["-c", "user.name=tests", "-c", "user.email=tests@localhost"]
 PRODUCT = re.findall(r"(?m)^(\w+).*:", common.text_of("crates.txt").split("\n\n")[0])
 PROGRAM_CRATE = "crates/pgboard_program"
 LIBRARIES = "usr/lib/x86_64-linux-gnu"
-ABI = common.load(common.ROOT / "package").ABI
+package = common.load(common.ROOT / "package")
+ABI = package.ABI
 SONAME = f"libpgboard.so.{ABI}"
 # where the completions are, in the folder and below /usr
 COMPLETIONS = {
@@ -32,8 +34,13 @@ COMPLETIONS = {
     "pgboard.fish": ["share/fish/vendor_completions.d/pgboard.fish"] * 2,
 }
 CMAKE = common.text_of("tests/package/CMakeLists.txt")
-# the status of CMake for a version that a project asks for; the package's own is 0.1.0
-ASKED = {"": 0, "0": 0, "0.1.0 EXACT": 0, "0.0": 1, "0.1.99": 1, "0.2": 1, "1": 1, "0.1 EXACT": 1, "0.1": 0}
+# what projects ask of CMake: versions and ranges, of which a file of CMake's own says whether 0.1.0 meets them
+VERSIONS = "0.0 0.1 0.1.0 0.1.1 0.1.99 0.2 0.2.1 0.3 1 1.0".split()
+RANGES = [f"{first}...{mark}{last}" for first, last in itertools.product(VERSIONS, VERSIONS) for mark in ("", "<")]
+REFERENCE = """include(CMakePackageConfigHelpers)
+write_basic_package_version_file(referenceConfigVersion.cmake VERSION 0.1.0 COMPATIBILITY SameMinorVersion ARCH_INDEPENDENT)
+file(WRITE referenceConfig.cmake "")
+"""
 # what each package for Debian needs
 NEEDS = {
     "pgboard": {"libc6"},
@@ -87,6 +94,58 @@ def contents(path):
     return gzip.decompress(path.read_bytes()) if path.suffix == ".gz" else path.read_bytes()
 
 
+@common.needs("cmake")
+class CMake(unittest.TestCase):
+    """What CMake is told of a library, whose files are empty here."""
+
+    def setUp(self):
+        self.folder = common.make_folder(self)
+        for path in (common.ROOT / "packaging").glob("*.cmake"):
+            package.fill(path, self.folder / "lib/cmake/pgboard" / path.name, version="0.1.0", up="..")
+        (self.folder / "lib/libpgboard.so").touch()
+        (self.folder / "lib/libpgboard.a").touch()
+
+    def configured(self, *lines):
+        """What CMake says of a project with these lines."""
+        (self.folder / "CMakeLists.txt").write_text("\n".join(["project(asking NONE)", *lines]))
+        words = ["-S", self.folder, "-B", self.folder / "made", f"-DCMAKE_PREFIX_PATH={self.folder}"]
+        return common.run(["cmake", "-Wno-dev", *words])
+
+    def found(self, name, asked):
+        """Whether a package is found by what is asked of it."""
+        rows = enumerate(asked)
+        forget = f"unset({name}_DIR CACHE)\nunset({name}_FOUND)\n"
+        lines = (f"{forget}find_package({name} {it} QUIET)\nmessage(STATUS {at}=${{{name}_FOUND}}=)" for at, it in rows)
+        said = self.configured(*lines)[1].decode()
+        # (a range that is empty has no answer)
+        return {asked[int(at)]: it == "1" for at, it in re.findall(r"(?m)^-- (\d+)=(\d)=$", said)}
+
+    def test_versions_and_ranges_are_met_as_by_a_file_of_cmake(self):
+        (self.folder / "reference.cmake").write_text(REFERENCE)
+        (self.folder / "lib/cmake/reference").mkdir()
+        done("cmake", "-P", self.folder / "reference.cmake", cwd=self.folder / "lib/cmake/reference")
+        asked = ["", *VERSIONS, *(f"{it} EXACT" for it in VERSIONS), *RANGES]
+        found = self.found("pgboard", asked)
+        self.assertEqual(found, self.found("reference", asked))
+        self.assertEqual((len(found), sum(found.values())), (121, 18))
+        # (the file of CMake refuses 0, which here is any version below 1)
+        self.assertEqual(self.found("pgboard", ["0"]), {"0": True})
+
+    def test_a_component_that_is_asked_for_is_not_there(self):
+        asked = ["COMPONENTS other", "0.1 REQUIRED COMPONENTS other", "OPTIONAL_COMPONENTS other"]
+        self.assertEqual(list(self.found("pgboard", asked[:1] + asked[2:]).values()), [False, True])
+        status, _, err = self.configured(f"find_package(pgboard {asked[1]})")
+        self.assertNotEqual(status, 0)
+        self.assertIn(b"pgboard has no component other", err)
+
+    def test_a_target_has_its_file(self):
+        rows = "if(TARGET pgboard::{0})\nmessage(STATUS ={0}=)\nendif()".format
+        lines = ["find_package(pgboard REQUIRED)", rows("pgboard"), rows("pgboard_static")]
+        self.assertEqual(re.findall(rb"=(\w+)=", self.configured(*lines)[1]), [b"pgboard", b"pgboard_static"])
+        (self.folder / "lib/libpgboard.a").unlink()
+        self.assertEqual(re.findall(rb"=(\w+)=", self.configured(*lines)[1]), [b"pgboard"])
+
+
 @common.needs("cc", "pkg-config", "dpkg-buildpackage", "dh")
 class Packaged(unittest.TestCase):
     @classmethod
@@ -104,7 +163,7 @@ class Packaged(unittest.TestCase):
         cls.dist = cls.folder / "dist"
         status, said = cls.tree.package(cls.dist)
         assert status == 0, said
-        (archive,) = cls.dist.glob("*.tar.gz")
+        (archive,) = cls.dist.glob("*-linux-*.tar.gz")
         (cls.wheel,) = cls.dist.glob("*.whl")
         done("tar", "-xzf", archive, "-C", cls.folder)
         (cls.unpacked,) = cls.folder.glob("pgboard-*")
@@ -243,7 +302,7 @@ class Packaged(unittest.TestCase):
     def test_modes_and_owners_of_the_folder(self):
         scripts = self.tree.git("ls-files", "--stage", "examples").splitlines()
         runs = {it.split()[3] for it in scripts if it.startswith("100755")}
-        (archive,) = self.dist.glob("*.tar.gz")
+        (archive,) = self.dist.glob("*-linux-*.tar.gz")
         with tarfile.open(archive) as members:
             for it in members:
                 script = it.name.partition("/doc/pgboard/")[2]
@@ -270,7 +329,7 @@ class Packaged(unittest.TestCase):
         self.assertEqual(got, (0, b"4 1024\n", b"pgboard: write fault\n"))
 
     def test_each_file_of_the_folder_is_that_of_the_tree(self):
-        places = {"share/doc/pgboard/": "", "include/": "include/"}
+        places = {"share/doc/pgboard/": "", "include/": "include/", "share/pgboard/rust/": "bindings/rust/"}
         compared = 0
         for path in files_in(self.unpacked):
             name = str(path.relative_to(self.unpacked))
@@ -280,7 +339,8 @@ class Packaged(unittest.TestCase):
                 compared += 1
                 self.assertEqual(path.read_bytes(), there.read_bytes(), name)
         names = common.load(common.ROOT / "package").PAGES
-        listed = [self.tree.git("ls-files", *map(":(glob){}".format, it)).split() for it in (names, ["include/*"])]
+        every = names, ["include/*"], ["bindings/rust/**"]
+        listed = [self.tree.git("ls-files", *map(":(glob){}".format, it)).split() for it in every]
         self.assertEqual(compared, sum(map(len, listed)))
         for name, paths in COMPLETIONS.items():
             wanted = (common.ROOT / "packaging/completions" / name).read_bytes()
@@ -339,6 +399,13 @@ class Packaged(unittest.TestCase):
 
     # --- the libraries ---
 
+    def test_the_code_is_for_the_processors_that_the_names_say(self):
+        self.assertTrue(self.unpacked.name.endswith("-linux-x86_64-v2"))
+        # (the static program has glibc's code for each level)
+        code = done("objdump", "--disassemble", "--no-show-raw-insn", self.unpacked / "lib/libpgboard.so")
+        self.assertRegex(code, r"\t(popcnt|pshufb|ptest)\b")
+        self.assertNotRegex(code, r"%[yz]mm")
+
     def test_the_libraries_have_the_names_of_the_header_alone(self):
         for folder in (self.unpacked / "lib", self.root / LIBRARIES):
             self.assertEqual(names_in(folder / "libpgboard.so", "--dynamic"), EXPORTS)
@@ -387,15 +454,27 @@ class Packaged(unittest.TestCase):
         folder = common.make_folder(self)
         (folder / "embed.c").write_text(program)
         flags = [f"-DCMAKE_PREFIX_PATH={prefix}", "-DCMAKE_LIBRARY_ARCHITECTURE=x86_64-linux-gnu"]
-        for version, status in ASKED.items():
-            (folder / "CMakeLists.txt").write_text(CMAKE.replace("VERSION_ASKED", version))
-            ran = common.run(["cmake", "-S", folder, "-B", folder / f"of{version}", *flags])
-            self.assertEqual(ran[0], status, version)
-        done("cmake", "--build", folder / "of0.1")
+        (folder / "CMakeLists.txt").write_text(CMAKE)
+        done("cmake", "-S", folder, "-B", folder / "made", *flags)
+        done("cmake", "--build", folder / "made")
         for name in ("by_pgboard", "by_pgboard_static"):
-            made = folder / "of0.1" / name
+            made = folder / "made" / name
             self.assertEqual(common.run([made], env={"LD_LIBRARY_PATH": str(lib)}), (0, printed.encode(), b""))
             self.assertEqual(SONAME in done("ldd", made), name == "by_pgboard")
+
+    @common.needs("cargo")
+    def test_a_rust_program_is_built_with_the_crate_alone_and_the_crate_can_be_packaged(self):
+        env = {name: value for name, value in os.environ.items() if not re.match("PGBOARD_|PKG_|CARGO_TARGET", name)}
+        by_name = {"PKG_CONFIG_PATH": f"{self.root / LIBRARIES}/pkgconfig"}
+        for prefix, found in ((self.unpacked, {}), (self.root / "usr", by_name)):
+            folder, crate = common.make_folder(self), prefix / "share/pgboard/rust"
+            program = re.search(r"(?ms)^```rust\n(.*?)^```$", (crate / "README.md").read_text())[1]
+            common.write_program(folder / "src/main.rs", program)
+            about = '[package]\nname = "user"\nversion = "0.1.0"\nedition = "2021"\n'
+            (folder / "Cargo.toml").write_text(f'{about}[dependencies]\npgboard = {{ path = "{crate}" }}\n')
+            done("cargo", "run", "--offline", cwd=folder, env={**env, **found})
+            shutil.copytree(crate, folder / "crate")
+            done("cargo", "package", "--offline", cwd=folder / "crate", env={**env, **by_name})
 
     # --- the wheel ---
 
@@ -422,10 +501,30 @@ class Packaged(unittest.TestCase):
         done(self.folder / "venv/bin/pip", "install", "--no-index", "--disable-pip-version-check", self.wheel)
         env = {name: value for name, value in os.environ.items() if not name.startswith("PGBOARD")}
         self.judge_python(self.folder / "venv/bin/python", env, r".*/pgboard/libpgboard\.so")
+        solve = [self.folder / "venv/bin/pgboard-python", "solve", common.ROOT / "examples/both_win.pg"]
+        self.assertEqual(done(*solve, env=env), SOLUTION.decode())
+
+    def test_a_wheel_of_the_sources_takes_the_systems_library(self):
+        (sources,) = self.dist.glob(f"pgboard-{self.version}.tar.gz")
+        top = self.folder / "sources"
+        top.mkdir()
+        done("tar", "-xzf", sources, "-C", top)
+        (top,) = top.iterdir()
+        names = {str(it.relative_to(top)) for it in files_in(top)}
+        listed = {it.partition("bindings/python/")[2] for it in self.tree.git("ls-files", "bindings/python/pgboard").split()}
+        self.assertEqual({it for it in names if it.startswith("pgboard/")}, listed)
+        self.assertLessEqual({"LICENSE", "README.md", "pyproject.toml", "setup.py"}, names)
+        code = "from setuptools.build_meta import build_wheel; print(build_wheel('made'))"
+        self.assertIn("-py3-none-any.whl", done("/usr/bin/python3", "-c", code, cwd=top))
+        done(sys.executable, "-m", "venv", self.folder / "of_sources")
+        pip = [self.folder / "of_sources/bin/pip", "install", "--no-index", "--disable-pip-version-check"]
+        done(*pip, *(top / "made").iterdir())
+        env = {"PATH": "/usr/bin:/bin", "LD_LIBRARY_PATH": str(self.unpacked / "lib")}
+        self.judge_python(self.folder / "of_sources/bin/python", env, re.escape(SONAME))
 
     def judge_python(self, python, env, path):
         solved = "pgboard.solve([0, 1], [2, 1], [[0, 1], [1]])"
-        code = f"import pgboard; print(pgboard.library.LIBRARY._name, {solved})"
+        code = f"import pgboard.library; print(pgboard.library.LIBRARY._name, {solved})"
         self.assertRegex(done(python, "-c", code, env=env), rf"\A{path} \(\[0, 1\], \[0, 1\]\)\n\Z")
         said = done(python, "-m", "pgboard", "solve", "--stats", common.ROOT / "examples/both_win.pg", env=env)
         self.assertRegex(said, r"(?s)\Aparitysol 1;\n0 0 0;\n1 1 1;\n.*\nentries: 2\n\Z")

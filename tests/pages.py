@@ -9,6 +9,7 @@ import unittest
 
 import cli
 import common
+import plain
 
 BLOCK = re.compile(r"(?ms)^```(\w*)\n(.*?)^```$")
 # lines of commands, and what they print
@@ -116,8 +117,8 @@ class Examples(unittest.TestCase):
 PLACES = ["no token", "not expected", "number too large"]
 FAULTS = [
     *(f"game: byte AT: {it}" for it in (*PLACES, "owner is not 0 or 1")),
-    *(f"game: {it}" for it in ("no vertex", "too many vertices", "too many edges")),
-    *(f"game: vertex V: {it}" for it in ("specified twice", "no successor", "successor W is not specified")),
+    *(f"game: {it}" for it in ("too many vertices", "too many edges")),
+    *(f"game: vertex V: {it}" for it in ("specified twice", "successor W is not specified")),
     *(f"solution: byte AT: {it}" for it in (*PLACES, "winner is not 0 or 1")),
     *(f"solution: vertex V: {it}" for it in ("not in the game", "written twice", "not written")),
     *(f"known: {it}" for it in ("bad choice or none at V", "bad cycle at V", "V is lost", "V leaves to W")),
@@ -125,8 +126,6 @@ FAULTS = [
     *(f"not a solution: {it} at V" for it in ("no choice", "bad choice", "bad cycle")),
     "not a solution: V leaves to W",
 ]
-# those that no text gives
-WITHOUT_EXAMPLE = ["game: no vertex", "game: vertex V: no successor"]
 REFUSED_WORDS = "A refused command line (status 2)"
 # those whose examples take minutes, or more memory than they allow, in a program with run-time checks
 NEED_SPEED = ["game: too many vertices", "game: too many edges", "text too long", "no memory"]
@@ -144,7 +143,8 @@ def expected_of(path, name):
 class Faults(unittest.TestCase):
     """The heading of a part of docs/FAULTS.md says the status that its examples have, as (status 3).
 
-    After 'Test:' the part of a line names a test that has to expect a line of this kind and this status.
+    A heading below it has one or more lines of faults. After 'Test:' are tests that have to expect this status and
+    one of these lines; each line has an example and a test.
     """
 
     def test_each_fault_has_an_example_and_a_test(self):
@@ -152,26 +152,28 @@ class Faults(unittest.TestCase):
         for part in re.split(r"(?m)^(?=## )", common.text_of("docs/FAULTS.md")):
             status = re.search(r"\(status ([0-9])\)", part.split("\n")[0])
             for under in re.split(r"(?m)^(?=##+ )", part):
-                head = under.split("\n")[0].strip("#` ")
-                if under.startswith("### "):
-                    found.append(head)
-                left_out = WITHOUT_EXAMPLE + NEED_SPEED * common.is_checked()
-                if head in FAULTS and head not in left_out or head == REFUSED_WORDS:
+                head = under.split("\n")[0].strip("# ")
+                lines = re.findall("`([^`]+)`", head) if under.startswith("### ") else []
+                found += lines
+                if lines and not (common.is_checked() and lines[0] in NEED_SPEED) or head == REFUSED_WORDS:
                     with self.subTest(head):
-                        self.judge(head, under, int(status[1]))
+                        self.judge(lines, under, int(status[1]))
         self.assertEqual(sorted(found), sorted(FAULTS))
 
-    def judge(self, head, under, status):
-        line = re.escape(head if head.startswith("not a solution") else f"pgboard: {head}")
-        line = re.compile(re.sub(r"\b(AT|V|W)\b", "[0-9]+", line) + r"\n")
+    def judge(self, lines, under, status):
         runs = [ran(self, commands) for _, commands, _ in examples(under)]
         self.assertTrue(runs)
-        ((path, name),) = re.findall(r"(?m)(?<= )Test: `([\w./]+)`(?: `(\w+)`)?\.$", under)
-        tested, said = expected_of(path, name)
-        self.assertEqual(tested, status)
-        if head in FAULTS:
-            self.assertEqual([ended for out, ended in runs if line.fullmatch(out)], [status] * len(runs))
-            self.assertRegex(said, line)
+        (named,) = re.findall(r"(?m)(?<= )Test: (`.*`)\.$", under)
+        tests = [expected_of(*it) for it in re.findall(r"`([\w./]+)`(?: `(\w+)`)?", named)]
+        self.assertEqual({tested for tested, _ in tests}, {status})
+        kinds = []
+        for line in lines:
+            line = re.escape(line if line.startswith("not a solution") else f"pgboard: {line}")
+            kinds.append(re.compile(re.sub(r"\b(AT|V|W)\b", "[0-9]+", line) + r"\n"))
+            self.assertTrue(any(kinds[-1].fullmatch(out) for out, _ in runs), line)
+            self.assertTrue(any(kinds[-1].search(said) for _, said in tests), line)
+        for out, ended in runs if kinds else []:
+            self.assertTrue(ended == status and any(it.fullmatch(out) for it in kinds), out)
 
 
 # --- help ---
@@ -179,7 +181,7 @@ class Faults(unittest.TestCase):
 # (tools/help makes the man page, and tests/help.py compares it)
 PAGE, MAN = "docs/CLI.md", "packaging/man/pgboard.1"
 # of the script ./pgboard
-OF_SCRIPT = {"--unproved", "--rebuild", "--install"}
+OF_SCRIPT = {"--unproved", "--checked", "--rebuild", "--library", "--install"}
 FLAG = r"(?<![\w-])--[a-z][a-z-]*"
 
 
@@ -313,6 +315,67 @@ class Code(unittest.TestCase):
             for at, block in enumerate(blocks, 1):
                 with self.subTest(page, block=at):
                     self.assertTrue(is_tested(page, block))
+
+
+# --- going back, on the page of pg_finders ---
+
+STATES = {"white": "Active", "#d0d0d0": "Set aside", "#bfdbfe": "Odd's", "#fde68a": "Even's"}
+
+
+def drawn_game(nodes, edges):
+    """The game of a part of the picture, and the state of each vertex by its colour."""
+    game, states = {}, {}
+    for title, texts, looks in nodes:
+        id, priority = map(int, texts)
+        owner = 0 if title in edges["diamond"] else 1
+        game[id] = priority, owner, {int(to[1:]) for it, to in edges["pairs"] if it == title}
+        states[id] = STATES[looks[0][0]]
+    return game, states
+
+
+def going_back(game):
+    """The table of the page, by the definitions."""
+    every, top = {*game}, max(priority for priority, _, _ in game.values())
+    player, greatest = top % 2, {id for id in game if game[id][0] == top}
+    aside = plain.attracted(game, greatest, player)
+    rows = plain.solved(game, every - aside)
+    won, lost = ({id for id in rows if rows[id][0] == it} for it in (player, 1 - player))
+    owned = lambda his, other: (his, other) if player else (other, his)
+    yield "the rest is won", set(), aside, *owned(won, lost)
+    taken = plain.attracted(game, lost, 1 - player)
+    active = aside - taken
+    yield "B", active, set(), *owned(won - taken, taken)
+    again = plain.attracted(game, greatest - taken, player, every - taken)
+    active, kept = active - again, won - taken
+    yield "A'", active, again, *owned(kept, taken)
+    rests_on = lambda id: {rows[id][1]} if game[id][1] == player else game[id][2]
+    while opened := {id for id in kept if rests_on(id) & (active | taken - lost)}:
+        active, kept = active | opened, kept - opened
+    yield "what rests on a change", active, again, *owned(kept, taken)
+    more = plain.attracted(game, kept, player, active | kept)
+    yield "p attracts", active - more, again, *owned(more, taken)
+
+
+class GoingBack(unittest.TestCase):
+    def test_the_table_and_the_picture(self):
+        """They are what the definitions make of the drawn game, and the picture is that of its source."""
+        source = common.text_of("docs/pictures/going_back.dot")
+        picture = list(common.drawn(common.text_of("docs/pictures/going_back.svg")))
+        labels = dict(re.findall(r'(?m)^ +(\w+) \[label="([^"]*)"', source))
+        self.assertEqual({it: "\\n".join(texts) for kind, it, texts, _ in picture if kind == "node"}, labels)
+        pairs = {tuple(it.split("->")) for kind, it, *_ in picture if kind == "edge"}
+        self.assertEqual({*re.findall(r"\b(\w+) -> (\w+);", source)}, pairs)
+        edges = {"pairs": pairs, "diamond": {*re.findall(r"(?m)^ +(\w+) .*shape=diamond", source)}}
+        page = common.text_of("crates/pg_finders/README.md")
+        heads, *table = re.findall(r"(?m)^\| (.*) \|$", page[page.index("| After |") :].partition("\n\n")[0])
+        heads = heads.split(" | ")
+        shown = [[it.strip() for it in row.split("|")] for row in table]
+        part = lambda name: [it[1:] for it in picture if it[0] == "node" and it[1][0] == name]
+        for name, row in (("b", shown[0]), ("a", shown[-1])):
+            game, states = drawn_game(part(name), edges)
+            made = [(after, *(" ".join(map(str, sorted(it))) for it in sets)) for after, *sets in going_back(game)]
+            self.assertEqual([*map(tuple, shown)], made)
+            self.assertEqual({int(id): head for head, ids in zip(heads[1:], row[1:]) for id in ids.split()}, states)
 
 
 # --- Python ---

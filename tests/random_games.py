@@ -16,7 +16,6 @@ import unittest
 import common
 import plain
 
-COMPARATOR = common.ROOT / "bench" / "out" / "comparator"
 BLANKS = [b" ", b"\n", b"\t", b"\r\n", b"  ", b" \n "]
 PIECES = [*b'0 1 9 00 , ; " - parity start paritysol x 2147483648 \xff %'.split(), b" ", b"\n"]
 SOLVES = [
@@ -143,15 +142,12 @@ class Checks:
         self.game = random_game(self.chance)
         self.text = random_game_text(self.chance, self.game)
 
-    def run(self, words, given, path=None):
-        return common.run([path or common.PROGRAM, *words], given, cwd=self.folder)
+    def run(self, words, given):
+        return common.program(*words, given=given, cwd=self.folder)
 
     def differs(self, words, given, wanted):
-        for path in [common.PROGRAM, *[COMPARATOR] * (common.IS_GATE or COMPARATOR.exists())]:
-            got = self.run(words, given, path)
-            if got != wanted:
-                return f"{path.name} {' '.join(words)}: {got}, and not {wanted}"
-        return None
+        got = self.run(words, given)
+        return None if got == wanted else f"{' '.join(words)}: {got}, and not {wanted}"
 
     def verify(self, text, is_joined):
         wanted = plain.verified(self.text, text)

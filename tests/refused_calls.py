@@ -293,33 +293,15 @@ TEST_ENDED = b'error: "no memory for the test itself"\nthe test failed: its resu
 # others are laid out flat, without a value for each of the 40 vertices. The searches of a long cycle end
 # before a ranking is made, as it is of a ladder. Of two games that differ in one edge, or whose searches
 # do, the second makes one, which takes more than three allocations.
-GAME_TESTS, DOMINION_TESTS = (
-    "pg_text_tests_tests tests::game::memory",
-    "pg_finders_tests_tests tests::dominion::memory",
-)
-IN_ORDER = "many_lists_in_order_are_a_game_after_a_refusal"
+LISTS, CHECKS = "pg_text_tests_tests tests::game::allocations", "pg_finders_tests_tests tests::dominion::worked"
+IN_ORDER = "many_lists_in_order_are_a_game"
 FEWER = [
-    (
-        GAME_TESTS,
-        "many_lists_in_order_are_the_game_itself_after_a_refusal",
-        "many_lists_in_order_are_made_after_a_refusal",
-        1,
-    ),
-    (GAME_TESTS, IN_ORDER, "many_lists_with_repeated_successors_are_laid_out_after_a_refusal", 0),
-    (GAME_TESTS, "many_falling_lists_are_laid_out_after_a_refusal", IN_ORDER, 40),
-    (DOMINION_TESTS, "a_long_cycle_is_judged_after_a_refusal", "a_ladder_is_judged_after_a_refusal", 0),
-    (
-        DOMINION_TESTS,
-        "each_edge_of_a_cycle_is_looked_at_once_after_a_refusal",
-        "with_one_edge_more_a_ranking_is_made_after_a_refusal",
-        -3,
-    ),
-    (
-        DOMINION_TESTS,
-        "many_short_searches_need_no_ranking_after_a_refusal",
-        "many_searches_that_are_one_edge_longer_need_one_after_a_refusal",
-        -3,
-    ),
+    (LISTS, "many_lists_in_order_are_the_game_itself", "many_lists_in_order_are_made", 1),
+    (LISTS, IN_ORDER, "many_lists_with_repeated_successors_are_laid_out", 0),
+    (LISTS, "many_falling_lists_are_laid_out", IN_ORDER, 40),
+    (CHECKS, "a_long_cycle_is_judged", "a_ladder_is_judged", 0),
+    (CHECKS, "each_edge_of_a_cycle_is_looked_at_once", "with_one_edge_more_a_ranking_is_made", -3),
+    (CHECKS, "many_short_searches_need_no_ranking", "many_searches_that_are_one_edge_longer_need_one", -3),
 ]
 
 

@@ -4,6 +4,7 @@ and its pictures read back.
 
 import contextlib
 import io
+import math
 import os
 import random
 import re
@@ -105,10 +106,10 @@ class Use:
         status, out, err = common.run(words, given, timeout=600, cwd=common.ROOT, env=env)
         return status, out.decode(errors="replace"), err.decode()
 
-    def check_growth(self, call, size):
-        """That a call takes less than ten times as long for four times as much, once it takes long enough."""
+    def check_growth(self, call, size, most=math.inf):
+        """That a call takes less than ten times as long for four times as much, once it takes long enough, or for the most."""
         took = before = 0
-        while took < 0.3 or not before:
+        while (took < 0.3 or not before) and size <= most:
             before, begun = took, time.process_time()
             call(size)
             took, size = time.process_time() - begun, 4 * size

@@ -22,6 +22,7 @@ import subprocess
 import sys
 import time
 import tracemalloc
+import types
 import unittest
 import unittest.mock
 
@@ -30,7 +31,7 @@ import plain
 import random_games
 import scripts
 from pgboard import command as shared
-from pgboard.command import games
+from pgboard.command import games, hoa
 from pgboard.files import read_game
 from scripts import BINDINGS, EXAMPLES, MODEL, SIGNALS, Use, command_of, even_wins, graph_of
 
@@ -60,7 +61,6 @@ def spelled_game(chance, game, headers):
 
 # how a file may be packed
 PACKED = [bytes, gzip.compress, bz2.compress, lzma.compress, lambda data: common.run(["zstd", "-c"], data)[1]]
-SOLUTION = "paritysol 12;\n0 0 12;\n3 1 3;\n12 0;\n"
 ONE = "parity 0;\n0 8 0 0;\n"
 
 
@@ -97,6 +97,10 @@ class Convert(Use, unittest.TestCase):
                             self.converted([], text)
                     else:
                         self.assertEqual(self.converted([], text)[0], 0)
+        with unittest.mock.patch.object(games, "MOST_EDGES", 3), self.refuses("more than .* or 3 edges"):
+            self.converted([], "0 8 0 0,0,0,0,0;")
+        with unittest.mock.patch.object(hoa, "MOST_BITS", 7), self.refuses("the labels have more than 7 letters"):
+            self.converted([], automaton)
         with unittest.mock.patch.object(games, "MOST_VERTICES", 2):
             for text in ("0 0; 1 0; 2 0;", "won by odd: 0 1 2"):
                 with self.refuses("more than 2 vertices"):
@@ -117,6 +121,26 @@ class Convert(Use, unittest.TestCase):
                 tracemalloc.stop()
                 self.assertLess(peak, len(packed) + 14_000_000)
 
+    def test_memory(self):
+        check = common.load(EXAMPLES / "modelcheck.py")
+        rules = types.SimpleNamespace(min=False, odd=False, dead_ends=True)
+        readers = {
+            "game": lambda *given: games.game_of_text(*given, rules), "solution": games.solution_of,
+            "model": check.Model, "formula": check.Formula,
+        }  # fmt: skip
+        for reader, *parts in scripts.rows_of("memory.txt"):
+            with self.subTest(reader, parts=parts):
+                begin, piece, end = (scripts.bytes_of(it).decode() for it in parts)
+                each = (piece.replace("N", str(v)) for v in range(150_000 // len(piece)))
+                path = self.file("packed", gzip.compress(f"{begin} {''.join(each)}{end}".encode()))
+                tracemalloc.start()
+                with contextlib.suppress(self.script.Refused):
+                    text = self.script.text_of(path)
+                    made = readers[reader](path, text)  # noqa: F841
+                peak = tracemalloc.get_traced_memory()[1]
+                tracemalloc.stop()
+                self.assertLess(peak, 30 * len(text) + 300_000)
+
     def test_what_takes_little_time(self):
         def unpack(count):
             row = lambda v: f'{v} 0 0 {v} "{random.Random(v).randbytes(300).hex()}";\n'.encode()
@@ -127,7 +151,14 @@ class Convert(Use, unittest.TestCase):
             game = "".join(f"{v} {v % 9} {v % 2} {v * v % count},{v}{end}" for v in range(count))
             self.assertEqual(self.converted(flags, game)[1].count("\n"), count + 1)
 
+        def sets(count):
+            text = f"State: 0 {{{'0 ' * count}}} {'[t] 0 ' * count}\n--END--\n"
+            self.assertEqual(self.converted([], scripts.HOA_GAME + text)[0], 0)
+
         self.check_growth(unpack, 1_000)
+        self.check_growth(sets, 1_000)
+        formula = common.load(EXAMPLES / "modelcheck.py").Formula
+        self.check_growth(lambda count: formula("", "&&".join(["(mu X.X)"] * count)), 1_600, 25_600)
         for flags, end in (([], ";\n"), (["--min"], ' "a state of it";\n')):
             self.check_growth(convert, 4_000)
 
@@ -186,20 +217,15 @@ class Convert(Use, unittest.TestCase):
         self.assertEqual(tuple(map(list, found)), wanted)
         self.assertEqual([it.typecode for it in found[1:]], ["B", "I", "I", "I"])
         self.assertEqual(list(read_game(self.file("game", "0 3 0 0;"), odd=True).priorities), [4])
+        # (a host may have threads)
+        packed = self.file("game", common.run(["zstd", "-c"], b"0 3 0 0;")[1])
+        with unittest.mock.patch("subprocess.Popen", wraps=subprocess.Popen) as begun:
+            self.assertEqual((read_game(packed).ids, begun.call_count), ([0], 1))
+            self.assertNotIn("preexec_fn", begun.call_args[1])
         with self.assertRaisesRegex(ValueError, "game:1:5: owner is not 0 or 1$"):
             read_game(self.file("game", "0 0 2 0;"))
         with self.assertRaises(OSError):
             read_game("/no/such file")
-
-    def test_a_solution_that_is_cut(self):
-        for log, cut in itertools.product(("", "solved 7\n"), range(len("paritysol 12;\n0"), len(SOLUTION))):
-            text = log + SOLUTION[:cut]
-            with self.subTest(text):
-                if text.rstrip().endswith(";"):
-                    self.assertEqual(self.converted(["--solution"], text)[::2], (0, ""))
-                    continue
-                with self.refuses(f"^standard input:{len(text.splitlines())}:[0-9]+: expected "):
-                    self.converted(["--solution"], text)
 
 
 # --- draw ---
@@ -270,49 +296,17 @@ class Draw(Use, unittest.TestCase):
         self.assertEqual(drawn(text, game), (looks, edges))
 
     def test_random_games_read_back(self):
+        """Also games with a dead end, which has no edge."""
         for chance in map(random.Random, range(150)):
             game = random_games.random_game(chance)
+            for id in chance.sample(list(game), chance.randrange(2)):
+                game[id] = *game[id][:2], set()
             rows = lambda id: (chance.randrange(2), chance.choice([*sorted(game[id][2]), None]))
             solution = {id: rows(id) for id in game if chance.random() < 0.8}
             text = random_games.random_solution_text(chance, solution)
             with self.subTest(game=game, solution=solution):
                 files = self.file("game.pg", plain.written_game(game)), self.file("game.sol", text)
-                self.check_drawn(self.call(*files)[1], game, solution)
-
-    def test_entries_of_a_trace_read_back(self):
-        for chance in map(random.Random, range(12)):
-            game = random_games.random_game(chance)
-            path = self.file("game.pg", plain.written_game(game))
-            text = common.program("trace", "--workers", "1", path)[1].decode()
-            trace, solution = self.file("trace", text), {}
-            for count, entry in enumerate(text.split("report")[0].split("entry ")):
-                if count:
-                    head, *rows = [re.findall(r"\d+", line) for line in entry.splitlines()]
-                    solution.update(
-                        {int(id): (int(head[2]), int(choice[0]) if choice else None) for id, *choice in rows}
-                    )
-                with self.subTest(game=game, count=count):
-                    self.check_drawn(self.call("--trace", trace, "--entries", count, path)[1], game, solution)
-
-    def test_dead_ends_are_those_of_the_text(self):
-        game, picture = self.file("game.pg", '1 4 0 ; 0 4 0 1 "a";'), self.folder / "picture.dot"
-        for words in (["--dead-ends"], ["--dead-ends", "--min"]):
-            scripts.called(self.script, ["winner", *words, "--vertex", "0", "--picture", picture, game])
-            text = self.call(*words, game, self.file("sol", "0 1; 1 1;"))[1]
-            for vertices, edges in map(graph_of, (text, picture.read_text())):
-                self.assertEqual((list(vertices), list(edges)), (["0", "1"], [("0", "1")]))
-                self.assertIn("label=<4<br/><font", vertices["1"])
-        numbers = json.loads(scripts.called(self.script, ["stats", "--json", "--dead-ends", game])[1])
-        self.assertEqual((numbers["edges"], numbers["own loops"]), (1, 0))
-        self.assertEqual(numbers["greatest degrees"], {"out": 1, "in": 1})
-        self.assertEqual(numbers["priorities"], {"least": 4, "greatest": 4, "different": 1})
-
-    def test_a_picture_has_at_most_200_vertices(self):
-        game = lambda count: self.file(f"{count}.pg", "".join(f"{v} 0 0 {v};\n" for v in range(count)))
-        self.assertEqual(self.call(game(200))[0], 0)
-        text = pathlib.Path(game(201)).read_bytes()
-        with self.refuses("^standard input: 201 vertices are too many"):
-            self.call(given=text)
+                self.check_drawn(self.call("--dead-ends", *files)[1], game, solution)
 
     @common.needs("dot")
     def test_other_kinds_of_pictures(self):
@@ -425,14 +419,6 @@ class Explain(Use, unittest.TestCase):
             texts = "".join(f"{v} 1 0 {to};" for v, to in ring), "".join(f"{v} 0 {to};" for v, to in ring)
             self.said(*texts, "--picture", picture)
 
-    def test_names_are_shown_without_what_a_terminal_would_obey(self):
-        self.assertIn('  0 "a\\x1b[2Jb": priority 1', self.said('0 1 0 0 "a\x1b[2Jb";', "0 0 0;"))
-        self.assertIn('  0 "a \\"b\\"": priority 1', self.said('0 1 0 0 "a \\"b\\"";', "0 0 0;"))
-
-    def test_a_line_is_named_by_where_it_begins(self):
-        out = self.said("0 0 0 1; 1 1 1 1;", '\n0 0\n1 "a\n\nname";\n1\n1\n1;')
-        self.assertIn("Even is said to win 0 (line 2 of the solution), and Odd 1 (line 6).", out)
-
     def test_the_shortest_walk(self):
         """The long way round from 0 has 0's priority as its greatest as well, and the shortest leads through
         a greater one.
@@ -440,14 +426,6 @@ class Explain(Use, unittest.TestCase):
         game = "0 3 1 1,2,4; 1 0 1 2; 2 0 1 3; 3 1 1 0; 4 4 1 0; 5 0 0 5;"
         out = self.said(game, "0 0; 1 0; 2 0; 3 0; 4 0; 5 0 5;")
         self.assertEqual(re.findall(r"(?m)^  (\d+): ", out), ["0", "2", "3"])
-
-    def test_priorities_are_shown_as_they_were_given(self):
-        for flag, first in (
-            ("--min", "  0: priority 3, Even chooses 1   <- the least, and Odd's"),
-            ("--odd", "  1: priority 8, Odd may move to 0   <- the greatest, and Odd's"),
-        ):
-            out = self.said("0 3 0 1; 1 8 1 0;", "0 0 1; 1 0;", flag)
-            self.assertEqual(out.splitlines()[2], first)
 
     def test_a_dead_end(self):
         for choice in ("", " 1", " 0"):
@@ -804,6 +782,9 @@ class Ends(unittest.TestCase):
         for path in FILES:
             shutil.copy(EXAMPLES / path, self.folder)
         (self.folder / "named.pg").write_text('0 0 0 0,1 "\u03a9"; 1 1 1 1;')
+        states = "--BODY-- State: 0 {0} [0] 0 [!0] 1 State: 1 [t] 1 --END--"
+        head = 'HOA: v1 Start: 0 AP: 1 "a" controllable-AP: 0 Acceptance: 1 Inf(0) '
+        (self.folder / "two.hoa").write_text(head + states)
         (self.folder / "away.pg").write_text("0 1 0 1; 1 2 0 1;")
         (self.folder / "full.dot").symlink_to("/dev/full")
         form = lambda text: re.escape(text.replace("\\n", "\n")).replace(r"\.\.\.", "(?s:.*)")
@@ -860,6 +841,15 @@ class Ends(unittest.TestCase):
                 self.check_ended(process, number, program)
                 self.assertEqual(ended.exists(), waits == ends[1])
                 ended.unlink(missing_ok=True)
+
+    def test_progress_on_a_terminal(self):
+        waits = f"#!/bin/sh\ntest $1 != solve || sleep 2.4\nexec {shlex.quote(str(common.PROGRAM))} \"$@\"\n"
+        env = {**os.environ, "PGBOARD": str(common.write_program(self.folder / "waits", waits))}
+        ran, said = common.at_terminal(WINNER, env=env)
+        first, *lines, last = said.decode().split("\r\x1b[K")
+        # (on a slow machine other lines come too)
+        self.assertEqual((ran.returncode, first, last), (0, "", ""))
+        self.assertLessEqual({"pgboard: solve runs, 1 s", "pgboard: solve runs, 2 s"}, {*lines})
 
     def test_a_command_that_is_killed(self):
         process, program = self.start(WINNER)

@@ -1,6 +1,5 @@
 //! Tokens of both texts, one at a time.
 
-use crate::fault::Refusal;
 use std::io::BufRead;
 
 /// The greatest number of a text.
@@ -30,13 +29,13 @@ pub struct Token {
 pub struct Lexer<'t> {
     pub text: &'t [u8],
     pub at: usize,
-    /// Where the first number that is too large stands.
-    pub too_large: Option<usize>,
+    /// Whether a number was too large.
+    pub too_large: bool,
 }
 
 impl<'t> Lexer<'t> {
     pub fn new(text: &'t [u8]) -> Lexer<'t> {
-        Lexer { text, at: 0, too_large: None }
+        Lexer { text, at: 0, too_large: false }
     }
 
     #[inline(always)]
@@ -74,9 +73,7 @@ impl<'t> Lexer<'t> {
         if at - from > MOST_DIGITS {
             value = long_number(&self.text[from..at]);
         }
-        if value > GREATEST && self.too_large.is_none() {
-            self.too_large = Some(from);
-        }
+        self.too_large |= value > GREATEST;
         Kind::Number(value)
     }
 
@@ -101,30 +98,29 @@ impl<'t> Lexer<'t> {
         &self.text[token.from..self.at]
     }
 
-    /// The refusal for a token that stands where it may not: any byte that begins no token comes before it.
+    /// No value, after the rest is read as pgboard reads it, which names a byte that begins no token before this token.
     #[cold]
-    pub fn unexpected(&mut self, token: Token) -> Refusal {
-        let mut next = token;
-        while next.kind != Kind::End && next.kind != Kind::Bad {
-            next = self.next();
+    pub fn unexpected<T>(&mut self, mut token: Token) -> Option<T> {
+        while token.kind != Kind::End && token.kind != Kind::Bad {
+            token = self.next();
         }
-        if next.kind == Kind::Bad { Refusal::Lexical(next.from) } else { Refusal::Syntax(token.from) }
+        None
     }
 
     #[inline(always)]
-    pub fn expect_number(&mut self) -> Result<(u64, usize), Refusal> {
+    pub fn expect_number(&mut self) -> Option<u64> {
         let token = self.next();
         match token.kind {
-            Kind::Number(value) => Ok((value, token.from)),
-            _ => Err(self.unexpected(token)),
+            Kind::Number(value) => Some(value),
+            _ => self.unexpected(token),
         }
     }
 
     /// Passes the rest of a header line, a number and a semicolon.
-    pub fn expect_header(&mut self) -> Result<(), Refusal> {
+    pub fn expect_header(&mut self) -> Option<()> {
         self.expect_number()?;
         let token = self.next();
-        if token.kind == Kind::Semicolon { Ok(()) } else { Err(self.unexpected(token)) }
+        if token.kind == Kind::Semicolon { Some(()) } else { self.unexpected(token) }
     }
 }
 

@@ -1,7 +1,7 @@
 //! A plain program in Rust with the commands of pgboard, to measure it against.
 //!
 //! It stands on the standard library alone and is written for speed: each text is read whole and in one pass, games lie
-//! in flat lists, and the output is made in one buffer. Nothing of it is proved. `selftest` compares its fast parts with
+//! in flat lists, and the output is made in one buffer. It refuses a text with a fault, and does not name the fault. Nothing of it is proved. `selftest` compares its fast parts with
 //! slow and plain ones on random games. `solve --plain` takes the plain recursion. Build it with `rustc -O --edition 2024 main.rs`.
 
 mod cycles;
@@ -62,14 +62,14 @@ fn refused() -> ExitCode {
 fn finish(answer: Result<Answer, Fault>) -> ExitCode {
     let answer = answer.and_then(|answer| {
         let mut out = standard(1);
-        out.write_all(&answer.bytes).map_err(|_| Fault::Write)?;
+        out.write_all(&answer.bytes).map_err(|_| Fault::Device)?;
         Ok(answer.holds)
     });
     match answer {
         Ok(true) => ExitCode::SUCCESS,
         Ok(false) => ExitCode::from(1),
         Err(fault) => {
-            let _ = standard(2).write_all(format!("pgboard: {fault}\n").as_bytes());
+            let _ = standard(2).write_all(format!("comparator: {fault:?} fault\n").as_bytes());
             ExitCode::from(fault.status())
         }
     }
@@ -83,7 +83,7 @@ fn standard(number: i32) -> ManuallyDrop<File> {
 
 fn open(path: Option<&str>) -> Result<ManuallyDrop<File>, Fault> {
     match path {
-        Some(path) => File::open(path).map(ManuallyDrop::new).map_err(|_| Fault::Read),
+        Some(path) => File::open(path).map(ManuallyDrop::new).map_err(|_| Fault::Device),
         None => Ok(standard(0)),
     }
 }
@@ -91,11 +91,8 @@ fn open(path: Option<&str>) -> Result<ManuallyDrop<File>, Fault> {
 fn text_of(mut file: ManuallyDrop<File>) -> Result<Vec<u8>, Fault> {
     let size = file.metadata().map_or(0, |it| it.len() as usize);
     let mut text = Vec::with_capacity(size.min(LONGEST) + 1);
-    (&mut *file).take(LONGEST as u64 + 1).read_to_end(&mut text).map_err(|_| Fault::Read)?;
-    if text.len() > LONGEST {
-        return Err(Fault::TooLong);
-    }
-    Ok(text)
+    (&mut *file).take(LONGEST as u64 + 1).read_to_end(&mut text).map_err(|_| Fault::Device)?;
+    if text.len() > LONGEST { Err(Fault::Game) } else { Ok(text) }
 }
 
 fn joined() -> Result<Answer, Fault> {

@@ -33,7 +33,7 @@ impl Random {
             }
             specs.ends.push(specs.successors.len() as u32);
         }
-        specs.game().unwrap_or_else(|why| panic!("{why}"))
+        specs.game().expect("a game")
     }
 }
 

@@ -1,7 +1,8 @@
-"""The wheel has the library, which is of one platform and of no version of Python. pyproject.toml has all else."""
+"""A wheel with the library is of one platform; one without, as a source distribution gives, takes the system's library. No wheel is of
+one version of Python. pyproject.toml has all else.
+"""
 
 import os
-import sys
 
 from setuptools import Distribution, setup
 
@@ -11,9 +12,9 @@ except ImportError:
     from wheel.bdist_wheel import bdist_wheel
 
 
-class WithLibrary(Distribution):
+class Package(Distribution):
     def has_ext_modules(self):
-        return True
+        return os.path.exists("pgboard/libpgboard.so")
 
 
 class Wheel(bdist_wheel):
@@ -21,7 +22,4 @@ class Wheel(bdist_wheel):
         return "py3", "none", super().get_tag()[2]
 
 
-lacking = [it for it in ("pgboard/libpgboard.so", "LICENSE", "NOTICES", "PROVENANCE") if not os.path.exists(it)]
-if lacking:
-    sys.exit(f"pgboard: this folder lacks {', '.join(lacking)}: ./package makes the wheel, which has them")
-setup(distclass=WithLibrary, cmdclass={"bdist_wheel": Wheel})
+setup(distclass=Package, cmdclass={"bdist_wheel": Wheel})

@@ -49,6 +49,36 @@ class Boards(Tests):
         self.assertEqual(board.solution(), board.state())
         self.assertEqual(board.solution(), (array("B", [0, 1, 0, 1, 0]), array("I", [0, 1, 0, 3, 0])))
 
+    def test_a_board_of_a_text(self):
+        with pgboard.Board.from_text("9 1 1 9; 3 2 0 3,9,3;") as board:
+            self.assertEqual((board.vertices, board.settled, board.winner(1)), (2, 0, None))
+            rows = (3, 2, 0, array("I", [0, 1])), (9, 1, 1, array("I", [1]))
+            self.assertEqual((board.vertex(0), board.vertex(True)), rows)
+            for v in (-1, 2, 2**32, 2**64):
+                self.says(f"{v} is no vertex", board.vertex, v, error=IndexError)
+            self.says("a vertex has to be an integer, not str", board.vertex, "0")
+            self.refused(pgboard.Unsettled, 2, 0, board.solution_text)
+            self.assertEqual(board.post(1, {1: 1}), (0, 1, 1))
+            board.finish()
+            self.assertEqual(board.solution(), (array("B", [0, 1]), array("I", [0, 1])))
+            self.assertEqual(board.solution_text(), "paritysol 9;\n3 0 3;\n9 1 9;\n")
+        for call in (lambda: board.vertices, lambda: board.vertex(0), board.solution_text):
+            self.refused(pgboard.Closed, 0, 0, call)
+        self.refused(pgboard.NoToken, 6, 0, pgboard.Board.from_text, b"0 0 0 ?;")
+        self.says("a text is bytes or str, not list", pgboard.Board.from_text, [48])
+        # the longest rows
+        last = 2**31 - 1
+        texts = "".join(f"{last - v} {last} 1 {last - v};" for v in range(100)), "7 0 0 7;"
+        for text in texts:
+            with pgboard.Board.from_text(text) as board:
+                board.finish()
+                self.assertEqual(board.solution_text(), pgboard.solve_text(text))
+        # of arrays the vertices are the identifiers
+        with pgboard.Board(*TWO) as board:
+            board.finish()
+            self.assertEqual((board.vertex(0).id, board.vertex(1)), (0, (1, 1, 1, array("I", [1]))))
+            self.assertEqual(board.solution_text(), "paritysol 1;\n0 0 0;\n1 1 1;\n")
+
     def test_the_order_of_a_mapping_has_no_effect(self):
         board = pgboard.Board(*loops(3))
         self.assertEqual(board.post(0, {2: 2, 0: 0, 1: 1}), (0, 3, 3))
@@ -73,7 +103,7 @@ class Boards(Tests):
 
     def test_calls_of_one_board_take_turns(self):
         libc, lock, reached = ctypes.CDLL(None), ctypes.create_string_buffer(64), threading.Event()
-        self.assertIs(type(library.LIBRARY), ctypes.CDLL)  # which releases the interpreter's lock
+        self.assertIs(type(library.LIBRARY.loaded), ctypes.CDLL)  # which releases the interpreter's lock
         libc.pthread_mutex_lock(lock)
 
         class Slow:

@@ -11,7 +11,7 @@ import time
 import unittest
 import unittest.mock
 
-import pgboard
+import pgboard.library
 
 sys.path.append(str(pathlib.Path(__file__).resolve().parent.parent.parent / "tests"))
 import common

@@ -8,6 +8,7 @@ import ast
 import ctypes
 import ctypes.util
 import doctest
+import gzip
 import itertools
 import os
 import pathlib
@@ -60,9 +61,9 @@ def lists_of(game):
     return [it[1] for it in rows], [it[0] for it in rows], successors
 
 
-def python(program, cwd=HERE, **env):
+def python(program, cwd=HERE, stdin=None, **env):
     env = {name: value for name, value in {**os.environ, **env}.items() if value}
-    how = {"stdout": subprocess.PIPE, "stderr": subprocess.PIPE, "text": True, "start_new_session": True}
+    how = {"stdin": stdin, "stdout": subprocess.PIPE, "stderr": subprocess.PIPE, "text": True, "start_new_session": True}
     return subprocess.Popen([sys.executable, "-B", "-c", program], cwd=cwd, env=env, **how)
 
 
@@ -310,6 +311,19 @@ class Buffers(Tests):
             self.refused(pgboard.BadLengths, 2, 0, pgboard.solve_csr, *TWO[:2], kind([[1, 1]] * 3))
             self.refused(pgboard.UnknownSuccessor, 0, 2, pgboard.solve_csr, *TWO[:2], kind([[1] * 3] * 2))
 
+    @unittest.skipUnless(scipy, "scipy is not installed")
+    def test_gives_the_strategy_as_a_matrix_of_scipy(self):
+        game = csr_of([0, 1, 0, 1], [2, 1, 0, 2], [[0, 1], [1], [1, 0], [0]])
+        found = pgboard.solve_csr(*game)
+        strategy = found.strategy()
+        self.assertEqual((strategy.format, strategy.shape, strategy.dtype), ("csr", (4, 4), bool))
+        self.assertEqual(list(zip(*map(list, strategy.nonzero()))), [(0, 0), (1, 1), (2, 0)])
+        # only what was chosen is left of the winners' edges
+        kept = scipy.sparse.lil_matrix(strategy)
+        kept[3, 0] = True
+        self.assertEqual(pgboard.solve_csr(*game[:2], kept.tocsr()), found)
+        self.assertEqual(pgboard.solve_csr([1], [0], [0, 1], [0]).strategy().nnz, 0)
+
 
 class Faults(Tests):
     def test_are_value_errors_with_one_text(self):
@@ -373,10 +387,24 @@ class Texts(Tests):
         with tempfile.TemporaryDirectory() as folder:
             path = pathlib.Path(folder, "game.pg")
             path.write_bytes(GAME.encode() + b' 4 1 0 9 "\xff";')
-            for it in (path, str(path), os.fsencode(path)):
+            packed = pathlib.Path(f"{path}.\udcff")
+            for it in (path, str(path), os.fsencode(path), packed, os.fsencode(packed)):
+                packed.write_bytes(gzip.compress(path.read_bytes()))
                 self.assertEqual(pgboard.solve_file(it), "paritysol 9;\n3 0 3;\n4 1;\n9 1 9;\n")
             with self.assertRaises(FileNotFoundError):
                 pgboard.solve_file(f"{path}.gz")
+            packed.write_bytes(gzip.compress(bytes(1000))[:-9])
+            self.says(".*: it can't be unpacked: .*", pgboard.solve_file, packed, error=ValueError)
+            packed.write_bytes(gzip.compress(bytes(1000)))
+            for it in (packed, "/dev/zero"):
+                with mock.patch("pgboard.command.MOST_BYTES", 999):
+                    self.says(".*: it has more than 999 bytes", pgboard.solve_file, it, error=ValueError)
+
+    def test_standard_input_stays_open(self):
+        program = "import sys, pgboard\nprint(pgboard.%s('-'), sys.stdin.read(), sys.stdin.closed)"
+        for call, said in (("read_game", "Game("), ("solve_file", "paritysol 9")):
+            out, err = python(program % call, stdin=subprocess.PIPE).communicate(GAME, timeout=60)
+            self.assertTrue(out.startswith(said) and out.endswith("  False\n"), out + err)
 
     def test_refuses_texts(self):
         for game, solution, fault, at in (
@@ -405,7 +433,7 @@ class Package(Tests):
             self.assertEqual(said[0], 0, said[1])
 
     def test_examples(self):
-        self.assertEqual(doctest.testmod(pgboard), (0, 2))
+        self.assertEqual(doctest.testmod(pgboard), (0, 3))
         self.assertEqual(doctest.testmod(pgboard.board), (0, 1))
         page = pathlib.Path(HERE, "README.md").read_text()
         blocks = re.findall(r"(?ms)^```text\n(>>> .*?)^```$", page)
@@ -439,24 +467,47 @@ class Package(Tests):
         lines = set(map(int, re.findall(r"(?m)^<string>:(\d+): error: (?:Argument|List item)", said)))
         first = head.count("\n") + 1
         self.assertEqual(lines, set(range(first, first + len(refused))), said)
+        there, absent = pgboard.__all__, ["nothing", "__wrapped__", "text_bytes", "ctypes"]
+        status, said = self.mypy("-c", head + "\n".join(f"pgboard.{it}" for it in [*there, *absent]))
+        lines = list(map(int, re.findall(r"(?m)^<string>:(\d+): error: .*attr", said)))
+        self.assertEqual([*lines], list(range(first + len(there), first + len(there) + len(absent))), said)
         types = "pgboard.solve_csr(b'', b'', b'', b'').winners, pgboard.Leaves().at"
         said = self.mypy("-c", f"{head}reveal_type(({types}))")[1]
         self.assertRegex(said, r'Revealed type is "[Tt]uple\[array.array\[builtins.int\], builtins.int\]')
 
 
 class Loading(Tests):
-    CALL = "import pgboard; print(pgboard.library.LIBRARY._name, pgboard.solve([0], [0], [[0]]))"
+    CALL = "import pgboard.library; print(pgboard.library.LIBRARY._name, pgboard.solve([0], [0], [[0]]))"
 
     def test_an_import_without_the_library_says_what_to_do(self):
-        page = pathlib.Path(HERE, "README.md").read_text()
-        commands = re.findall(r"(?m)^(\(cd crates.*|cc -shared.*)$", page)
         for path in ("/nowhere/libpgboard.so", ctypes.util.find_library("c") or "libc.so.6"):
-            run = python("import pgboard.command\nfrom pgboard import solve", PGBOARD_LIBRARY=path)
+            run = python("import pgboard.command\nfrom pgboard import solve\nsolve([], [], [])", PGBOARD_LIBRARY=path)
             err = run.communicate(timeout=60)[1]
             self.assertEqual(run.returncode, 1)
-            todo = "install the wheel that ./package makes, or set PGBOARD_LIBRARY"
+            todo = "build one by `./pgboard --library` .*, or set PGBOARD_LIBRARY"
             self.assertRegex(err, f"ImportError: pgboard: .*{todo}")
-            self.assertEqual([it for it in commands if f"`{it}`" not in err], [])
+
+    def test_what_looks_at_the_package_needs_no_library(self):
+        program = """import doctest, inspect, rlcompleter, pgboard
+assert not hasattr(pgboard, "__wrapped__") and not hasattr(pgboard, "nothing") and not hasattr(pgboard, "ctypes")
+assert inspect.unwrap(pgboard) is pgboard and inspect.unwrap(pgboard.solve) is pgboard.calls.solve
+assert {*pgboard.__all__} <= {*dir(pgboard)} and all(hasattr(pgboard, it) for it in dir(pgboard))
+print(doctest.testmod(pgboard)[:2], rlcompleter.Completer({"pgboard": pgboard}).attr_matches("pgboard.solve_f"))
+"""
+        out, err = python(program, PGBOARD_LIBRARY="/nowhere.so").communicate(timeout=60)
+        self.assertRegex(out + err, r"(?s)ImportError: pgboard: .*\n\(2, 3\) \['pgboard.solve_file\(?'\]\n$")
+
+    def test_an_old_processor_is_refused(self):
+        with tempfile.TemporaryDirectory() as folder, mock.patch("pgboard.native.PROCESSORS", f"{folder}/cpuinfo"):
+            pgboard.native.check_processor()
+            new = "processor\t: 0\nflags\t\t: fpu pni ssse3 cx16 sse4_1 sse4_2 popcnt lahf_lm avx\n\n"
+            path, said = pathlib.Path(folder, "cpuinfo"), ".* level x86-64-v2, and this one lacks popcnt, sse4_2"
+            for text in (new, "processor: 0\n"):
+                path.write_text(text)
+                pgboard.native.check_processor()
+            path.write_text(new.replace("popcnt", "").replace("sse4_2", "") + new)
+            self.says(said, pgboard.native.check_processor, error=ImportError)
+            self.says(said, pgboard.library.Library().__getattr__, "pgboard_version", error=ImportError)
 
     def test_a_library_of_another_version_is_refused(self):
         mine = pgboard.library.VERSION
@@ -464,9 +515,9 @@ class Loading(Tests):
         for version in (7, mine + 1, mine + 100, 10 * mine):
             other = f"class Other:\n    def __getattr__(self, name):\n        return lambda: {version}\n"
             program = f"import ctypes\n{other}ctypes.CDLL = lambda path: Other()\n"
-            program += "import pgboard\npgboard.solve"
+            program += "import pgboard\npgboard.Board.from_text('')"
             err = python(program, PGBOARD_LIBRARY="other.so").communicate(timeout=60)[1]
-            self.assertIn(f"other.so is of version {version}, and this package of {mine}: install", err)
+            self.assertIn(f"other.so is of version {version}, and this package of {mine}: build one", err)
 
     def test_the_named_one_is_before_the_wheels_the_repositorys_and_the_systems(self):
         library = pgboard.library.path_of_library()
@@ -479,9 +530,10 @@ class Loading(Tests):
             if not ctypes.util.find_library("pgboard"):
                 err = python(self.CALL, **env).communicate(timeout=60)[1]
                 self.assertIn("ImportError: pgboard: its library can't be loaded", err)
-            built = f"{folder}/crates/pgboard_c/out/libpgboard.so"
-            os.makedirs(os.path.dirname(built))
-            places = f"{folder}/libpgboard.so.0", built, f"{here}/pgboard/libpgboard.so"
+            built = [f"{folder}/out/{it}/libpgboard.so" for it in ("unproved", "proved")]
+            for it in built:
+                os.makedirs(os.path.dirname(it))
+            places = f"{folder}/libpgboard.so.0", *built, f"{here}/pgboard/libpgboard.so"
             for path, name in zip(places, ("libpgboard.so.0", *places[1:])):
                 os.symlink(library, path)
                 found = python(self.CALL, **env).communicate(timeout=60)

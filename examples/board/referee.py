@@ -23,31 +23,29 @@ sys.path.insert(1, os.path.dirname(os.path.dirname(os.path.abspath(__file__))))
 import lib  # noqa: F401 isort: skip
 
 import contextlib
-import html
 import re
 import select
 import shlex
+import shutil
 import signal
 import subprocess
+import tempfile
 import threading
 import time
 
-from pgboard.command import FILE, WORDS, Parser, Refused, engine, folder, of_form, on_signals, printable, run
+from pgboard.command import FILE, WORDS, Parser, Refused, engine, on_signals, printable, run
 from pgboard.command import seconds, undone, write
 from pgboard.command.games import PLAYERS, Solution, game_of, solution_of
 
 HELP = """
 examples:
   examples/board/referee.py --solver 'oink {game} {solution}' game.pg
-  examples/board/referee.py --time 5 --picture run.svg \\
-      --solver 'a-solver {game}' --solver 'another' game.pg
+  examples/board/referee.py --time 5 --solver 'a-solver {game}' --solver another game.pg
 
 status: 0 where all is written, 2 where something was refused
 """
 # a solver may print so many bytes; a text that pgboard takes is not longer
 MOST = 268_435_456
-COLOURS = ("#8a8a8a", "#2563a8", "#d97706", "#15803d", "#b91c1c", "#7c3aed", "#0e7490", "#a16207", "#be185d")
-WIDTH, HEIGHT, LEFT, TOP = 720, 360, 80, 20
 
 
 class Table(engine.Table):
@@ -64,13 +62,44 @@ class Table(engine.Table):
     def parts_of(self, text):
         """What a solver says that each player wins: a choice or None of each vertex.
 
-        What comes after the last semicolon is left out, since a solver may be ended as it prints.
+        Where it can't be read, what comes after the last semicolon is left out, since a solver may be ended as
+        it prints.
         """
-        rows = solution_of("output", text[: text.rfind(";") + 1] or text).rows
+        try:
+            rows = solution_of("output", text).rows
+        except Refused as refused:
+            try:
+                rows = solution_of("output", text[: text.rfind(";") + 1] or text).rows
+            except Refused:
+                raise refused from None
         for id in rows:
             if id not in self.number:
                 raise Refused(f"vertex {id}: not in the game")
         return self.claim(0, rows), self.claim(1, rows)
+
+
+class Guard:
+    """A folder, and a process that removes it, and ends the solvers that run, where the referee is killed."""
+
+    # (each line has all of their groups)
+    ENDS = 'while read -r it; do all=$it; done; for it in $all; do kill -s KILL -- "-$it"; done; rm -rf -- "$0"'
+
+    def __init__(self):
+        self.path, self.groups, self.lock = tempfile.mkdtemp(prefix="pgboard-"), set(), threading.Lock()
+        how = {"stdin": subprocess.PIPE, "stdout": subprocess.DEVNULL, "stderr": subprocess.DEVNULL}
+        words = ["sh", "-c", self.ENDS, self.path]
+        self.process = subprocess.Popen(words, text=True, start_new_session=True, **how)
+
+    def turn(self, group):
+        """A solver has begun, or has ended."""
+        with self.lock, contextlib.suppress(OSError):
+            self.groups ^= {group}
+            print(*self.groups, file=self.process.stdin, flush=True)
+
+    def end(self):
+        self.process.kill()
+        self.process.wait()
+        shutil.rmtree(self.path, ignore_errors=True)
 
 
 def end_all(solvers):
@@ -88,14 +117,12 @@ class Solver:
     def name(self):
         return f"solver {self.worker} ({self.command})"
 
-    def run(self, text, limit, folder):
+    def run(self, limit, guard):
         """Runs the command until it ends or the limit in seconds is over, unless it was ended before.
         Returns what it has printed.
         """
-        paths = {
-            "{game}": os.path.join(folder, "game.pg"),
-            "{solution}": os.path.join(folder, f"{self.worker}.sol"),
-        }
+        names = {"{game}": "game.pg", "{solution}": f"{self.worker}.sol"}
+        paths = {word: os.path.join(guard.path, name) for word, name in names.items()}
         words = [re.sub(r"\{game\}|\{solution\}", lambda it: paths[it[0]], word) for word in self.words]
         writes_file = any("{solution}" in word for word in self.words)
         with contextlib.ExitStack() as open_files:
@@ -109,6 +136,7 @@ class Solver:
                 if self.why:
                     return ""
                 self.process = subprocess.Popen(words, stdin=given, stdout=out, start_new_session=True)
+                guard.turn(self.process.pid)
         timer = threading.Timer(limit, self.end, [f"ended after {limit:g} s"])
         timer.start()
         printed = b"" if writes_file else self.printed()
@@ -118,6 +146,7 @@ class Solver:
         timer.cancel()
         self.end()
         self.is_over = True
+        guard.turn(self.process.pid)
         if writes_file and os.path.isfile(paths["{solution}"]):
             with open(paths["{solution}"], "rb") as file:
                 printed = file.read(MOST + 1)
@@ -156,19 +185,17 @@ class Solver:
 
 
 class Referee:
-    """Runs solvers, posts what they print, and keeps when each post was made."""
+    """Runs solvers, and posts what they print."""
 
     def __init__(self, game, solvers, limit):
         self.game, self.solvers, self.limit = game, solvers, limit
         self.begun, self.lock = time.monotonic(), threading.Lock()
-        # the seconds, the worker and the number of vertices of each post
-        self.posts = []
 
     def run(self):
-        with folder() as made, undone(lambda: self.solvers, end_all):
-            write(os.path.join(made, "game.pg"), self.game.text)
+        with undone(Guard, Guard.end) as guard, undone(lambda: self.solvers, end_all):
+            write(os.path.join(guard.path, "game.pg"), self.game.text)
             threads = [
-                threading.Thread(target=self.serve, args=(it, made), daemon=True) for it in self.solvers
+                threading.Thread(target=self.serve, args=(it, guard), daemon=True) for it in self.solvers
             ]
             for it in threads:
                 it.start()
@@ -179,13 +206,12 @@ class Referee:
         board = self.game.shared
         left = len(self.game.ids) - board.settled
         board.finish()
-        self.note(0, left)
         self.say(f"the board itself settled {left} of {len(self.game.ids)}")
 
-    def serve(self, solver, folder):
+    def serve(self, solver, guard):
         """Runs a solver and posts what it prints; where the board is full then, the other solvers end."""
         try:
-            text = solver.run(self.game.text, self.limit, folder)
+            text = solver.run(self.limit, guard)
         except OSError as error:
             self.say(f"{solver.name()}: {error.filename or solver.command}: {error.strerror}")
             return
@@ -221,42 +247,10 @@ class Referee:
             posted = self.game.shared.post(player, part, worker)
         except self.game.calls.RefusedClaim as refused:
             return f"refused: {self.game.said(refused, part)}"
-        self.note(worker, posted.settled)
         return f"settled {posted.settled}, of which {posted.claimed} of {len(part)} claimed"
-
-    def note(self, worker, count):
-        if count:
-            self.posts.append((time.monotonic() - self.begun, worker, count))
 
     def say(self, line):
         print(f"referee: {printable(line)}", file=sys.stderr, flush=True)
-
-    def picture(self):
-        """An SVG picture: for each worker the vertices that it has settled, as a line over the seconds."""
-        last = max(self.posts[-1][0], 0.001)
-        across = lambda seconds: f"{LEFT + (WIDTH - LEFT) * seconds / last:.1f}"
-        up = lambda count: f"{TOP + (HEIGHT - TOP) * (1 - count / len(self.game.ids)):.1f}"
-        names = ["the board itself", *(it.command for it in self.solvers)]
-        lines = [
-            f'<svg xmlns="http://www.w3.org/2000/svg" viewBox="0 0 {WIDTH + 20} {HEIGHT + 40 + 20 * len(names)}" font-family="DejaVu Sans" font-size="12">',
-            f'<path d="M{LEFT},{TOP}V{HEIGHT}H{WIDTH}" fill="none" stroke="black"/>',
-            f'<text x="{LEFT - 8}" y="{TOP + 4}" text-anchor="end">{len(self.game.ids)}</text><text x="{LEFT - 8}" y="{HEIGHT}" text-anchor="end">0</text>',
-            f'<text x="{WIDTH}" y="{HEIGHT + 16}" text-anchor="end">{last:.2f} s</text><text x="{LEFT}" y="{HEIGHT + 16}">settled vertices by worker</text>',
-        ]
-        for worker, name in enumerate(names):
-            count, steps = 0, [f"M{LEFT},{up(0)}"]
-            for when, by, settled in self.posts:
-                if by == worker:
-                    count += settled
-                    steps.append(f"H{across(when)}V{up(count)}")
-            colour, y = COLOURS[worker % len(COLOURS)], HEIGHT + 36 + 20 * worker
-            stroke = f'stroke="{colour}" stroke-width="2.5"'
-            lines += [
-                f'<path id="worker{worker}" d="{"".join(steps)}H{WIDTH}" fill="none" {stroke}/>',
-                f'<path d="M{LEFT},{y - 4}h24" {stroke}/>',
-                f'<text x="{LEFT + 32}" y="{y}">{count} {html.escape(printable(name), quote=False)}</text>',
-            ]
-        return "\n".join([*lines, "</svg>\n"])
 
 
 def main(words):
@@ -266,8 +260,6 @@ def main(words):
     parser.add_argument("--solver", metavar="COMMAND", action="append", default=[], help=said)
     said = "the time that each solver has (60)"
     parser.add_argument("--time", metavar="SECONDS", type=seconds, default=60, help=said)
-    said = "draw how many vertices each solver settled, over time, in .svg"
-    parser.add_argument("--picture", metavar="FILE", type=of_form(r".*\.svg", "picture (.svg)"), help=said)
     parser.set_defaults(min=False, odd=False, dead_ends=None)
     given = parser.parse_args(words)
     solvers = []
@@ -282,12 +274,9 @@ def main(words):
         table = Table(game_of(given.game, given))
     except ImportError as error:
         raise Refused(str(error), FILE) from None
-    referee = Referee(table, solvers, given.time)
-    referee.run()
+    Referee(table, solvers, given.time).run()
     sys.stdout.write(Solution(table.rows(table.shared.solution())).written())
     sys.stdout.flush()
-    if given.picture:
-        write(given.picture, referee.picture())
     return 0
 
 

@@ -13,6 +13,8 @@ if _signal.getsignal(_signal.SIGINT) != _signal.SIG_IGN:
 import os
 import sys
 
+# (1 is an answer)
+sys.excepthook = lambda *error: (sys.__excepthook__(*error), os._exit(7))
 sys.path.insert(1, os.path.join(os.path.dirname(os.path.abspath(__file__)), "..", "..", "bindings", "python"))
 try:
     import pgboard.command  # noqa: F401

@@ -2,17 +2,14 @@
 or binary.
 
 A circuit is made of truth tables: one for each bit of the next state and for each output, over the bits of
-the state and the inputs. Each is made in two ways, by choices of one variable after the other and by a sum
-of products without redundant parts (Minato 1992), and the smaller circuit stays. Gates with the same inputs
-are one. State numbers that no state has may go anywhere.
+the state and the inputs. It is made by choices of one variable after the other. Gates with the same inputs are
+one. State numbers that no state has may go anywhere.
 """
 
 from pgboard import command
 from pgboard.command import Refused, of_form, printable
 
 MOST_VARIABLES = 20
-# a sum of products takes longer: only up to so many variables
-MOST_OF_SUMS = 14
 
 
 class Gates:
@@ -40,35 +37,19 @@ class Gates:
     def choice(self, variable, low, high):
         return self.either(self.both(variable ^ 1, low), self.both(variable, high))
 
-    def by_choices(self, least, most, at=0):
+    def between(self, least, most, at=0):
         """A literal of some function between two truth tables, by the variables from this one on."""
         if not least or not ~most & self.all(at):
             return int(bool(least))
-        found = self.known.get((least, most, at, "choices"))
-        if found is None:
-            (low, high), (low_most, high_most) = self.halves(least, at), self.halves(most, at)
-            if not (low | high) & ~(low_most & high_most):
-                found = self.by_choices(low | high, low_most & high_most, at + 1)
-            else:
-                parts = self.by_choices(low, low_most, at + 1), self.by_choices(high, high_most, at + 1)
-                found = self.choice(self.variables[at], *parts)
-            self.known[least, most, at, "choices"] = found
-        return found
-
-    def by_sums(self, least, most, at=0):
-        """The same by a sum of products: (literal, its truth table)."""
-        if not least or not ~most & self.all(at):
-            return (1, self.all(at)) if least else (0, 0)
         found = self.known.get((least, most, at))
         if found is None:
             (low, high), (low_most, high_most) = self.halves(least, at), self.halves(most, at)
-            without, without_table = self.by_sums(low & ~high_most, low_most, at + 1)
-            within, within_table = self.by_sums(high & ~low_most, high_most, at + 1)
-            rest = low & ~without_table | high & ~within_table
-            shared, shared_table = self.by_sums(rest, low_most & high_most, at + 1)
-            literal = self.either(self.choice(self.variables[at], without, within), shared)
-            table = without_table | shared_table | (within_table | shared_table) << self.size(at + 1)
-            found = self.known[least, most, at] = literal, table
+            if not (low | high) & ~(low_most & high_most):
+                found = self.between(low | high, low_most & high_most, at + 1)
+            else:
+                parts = self.between(low, low_most, at + 1), self.between(high, high_most, at + 1)
+                found = self.choice(self.variables[at], *parts)
+            self.known[least, most, at] = found
         return found
 
     def size(self, at):
@@ -106,11 +87,7 @@ class Circuit:
         if self.latches + len(inputs) > MOST_VARIABLES:
             sizes = f"{self.latches} bits of state and {len(inputs)} inputs"
             raise Refused(f"{sizes} are too many for a circuit: at most {MOST_VARIABLES} together")
-        wanted = self.wanted(machine)
-        ways = [lambda gates, *between: gates.by_choices(*between)]
-        if self.latches + len(inputs) <= MOST_OF_SUMS:
-            ways.append(lambda gates, *between: gates.by_sums(*between)[0])
-        self.gates, self.roots = min((self.made(way, wanted) for way in ways), key=lambda it: len(it[0]))
+        self.gates, self.roots = self.made(self.wanted(machine))
 
     def wanted(self, machine):
         """Of each bit of the next state, and of each output, the least and the greatest truth table, by
@@ -128,10 +105,10 @@ class Circuit:
         free = joined([0] * len(machine) + [(1 << (1 << width)) - 1] * (size - len(machine)), width)
         return [(least, least | free) for least in (joined(it, width) for it in columns)]
 
-    def made(self, way, wanted):
+    def made(self, wanted):
         """The gates that are needed, by rising numbers, and the literals of the bits that are wanted."""
         gates = Gates(self.latches + len(self.input_names))
-        roots = [way(gates, *between) for between in wanted]
+        roots = [gates.between(*bounds) for bounds in wanted]
         for (least, most), table in zip(wanted, gates.table(roots)):
             if least & ~table or table & ~most:
                 raise Refused("the circuit that was made is not that of the machine")

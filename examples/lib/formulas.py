@@ -7,8 +7,8 @@ fixed points. An action is compared with the label's text.
 
 import re
 
-from pgboard.command import shown
-from pgboard.command.texts import Tokens, kinds
+from pgboard.command import Refused, called, shown
+from pgboard.command.texts import Tokens, blanked, kinds
 
 OPERATORS = ("=>", "||", "&&")
 VALUES = ("true", "false")
@@ -20,6 +20,8 @@ BRACKET = re.compile(r"(\()|\)")
 # what is no set of actions
 REGULAR = ("+", ".", "*", "plus")
 NAME_LENGTH = 60
+# (the tree of a formula takes up to 240 bytes for each)
+MOST_CHARACTERS = 1 << 18
 # so many signs * and + may stand in a row
 MOST_REPEATED = 1000
 
@@ -28,14 +30,11 @@ def spelled(label):
     """A label, or an action of a formula, with blanks only between words, and with the actions of a
     multi-action in order.
     """
-    actions, depth = [""], 0
+    parts, depth = [], 0
     for it in re.findall(r"[()|]|[^()|]+", re.sub(r"(?<![\w']) | (?![\w'])", "", " ".join(label.split()))):
         depth += (it == "(") - (it == ")")
-        if it == "|" and not depth:
-            actions.append("")
-        else:
-            actions[-1] += it
-    return "|".join(sorted(actions))
+        parts.append("\n" if it == "|" and not depth else it)
+    return "|".join(sorted("".join(parts).split("\n")))
 
 
 class Parser(Tokens):
@@ -51,10 +50,10 @@ class Parser(Tokens):
     same = {"and": "&&", "or": "||", "not": "!"}
 
     def __init__(self, name, text):
+        if len(text) > MOST_CHARACTERS:
+            raise Refused(f"{called(name)}: a formula has at most {MOST_CHARACTERS:,} characters")
         # a comment is as good as blanks
-        super().__init__(
-            name, QUOTED_OR_COMMENT.sub(lambda it: it[0] if it[0][0] == '"' else " " * len(it[0]), text)
-        )
+        super().__init__(name, blanked(text, QUOTED_OR_COMMENT))
 
     def end_of(self, found):
         if found["word"] in NOT_READ:
@@ -67,7 +66,7 @@ class Parser(Tokens):
 
     def whole(self):
         tree = self.formula()
-        return self.wants("the end of the formula") if self.left else tree
+        return self.wants("the end of the formula") if self.next else tree
 
     def formula(self):
         return self.chain(OPERATORS, self.unary, lambda *tree: tree)
@@ -128,8 +127,8 @@ class Parser(Tokens):
 
     def goes_on(self):
         """Whether something follows the next token that it joins."""
-        after = self.left[-2:-1]
-        return bool(after) and (after[0].text in ("!", "(") or after[0].kind in ("a word", "a label"))
+        after = self.token(self.next.end)
+        return after and (after.text in ("!", "(") or after.kind in ("a word", "a label"))
 
     def joined(self, operator, at, left, right):
         for it in (left, right):
@@ -209,32 +208,59 @@ class Formula:
 
     def __init__(self, name, text):
         self.parser = Parser(name, text)
-        self.parts, self.free, self.texts = [], [], []
+        self.parts, self.texts = [], []
         # what the modalities have in their brackets, in order
         self.regulars = []
+        # a forest of the places of variables, in which what is inside a fixed point is below it, as far as a
+        # variable of it is; of each node the one above, or itself, and the greatest priority from it up to there
+        self.above, self.greatest, self.used = [], [], {}
         try:
             self.first, _, _ = self.add(self.parser.whole(), False, {})
         except RecursionError:
             self.parser.refuse("nested too deeply")
 
     def new(self, operator=None, text="", parts=(), actions=None, number=None):
-        """Adds a subformula of some parts: its number, the fixed points whose variables are free in it, and
-        its text.
-        """
+        """Adds a subformula of some parts: its number, the node above the variables in it, and its text."""
         if number is None:
             number = len(self.parts)
-            for every in (self.parts, self.free, self.texts):
-                every.append(None)
+            self.parts.append(None)
+            self.texts.append(None)
+        node = None
         if operator:
-            self.free[number] = set().union(*(free for _, free, _ in parts)) - {number}
-            self.parts[number] = (
-                operator,
-                self.priority(operator, number),
-                actions,
-                [part for part, _, _ in parts],
-            )
+            is_fixed, priority = operator in FIXED_POINTS, int(operator == "false")
+            if is_fixed:
+                priority = max(map(self.inside, self.used.pop(number, ())), default=0)
+                priority += (priority + (operator == "mu")) % 2
+            nodes = {self.root(node) for _, node, _ in parts if node is not None}
+            # (one that is above all of them stays)
+            is_new = len(nodes) > 1 or nodes and is_fixed and priority
+            node = self.node(nodes, priority * is_fixed) if is_new else next(iter(nodes), None)
+            self.parts[number] = operator, priority, actions, [part for part, _, _ in parts]
             self.texts[number] = text if len(text) <= NAME_LENGTH else text[: NAME_LENGTH - 2] + ".."
-        return number, self.free[number], self.texts[number]
+        return number, node, self.texts[number]
+
+    def node(self, below=(), priority=0):
+        """A new node above others."""
+        made = len(self.above)
+        self.above.append(made)
+        self.greatest.append(priority)
+        for it in below:
+            self.above[it] = made
+        return made
+
+    def root(self, node):
+        """The node above all others. The path to it is made short (Tarjan 1975)."""
+        path = [node]
+        while self.above[path[-1]] != path[-1]:
+            path.append(self.above[path[-1]])
+        for it, up in zip(path[-3::-1], path[-2::-1]):
+            self.above[it], self.greatest[it] = path[-1], max(self.greatest[it], self.greatest[up])
+        return path[-1]
+
+    def inside(self, node):
+        """The greatest priority of the fixed points around the place of a variable."""
+        top = self.root(node)
+        return max(self.greatest[node], self.greatest[top])
 
     def add(self, tree, negated, scope):
         operator, at, *rest = tree
@@ -280,7 +306,7 @@ class Formula:
         if operator == "+":
             return self.join(join, *(self.step(modality, it, after) for it in parts))
         number, _, _ = self.new()
-        again = number, {number}, text
+        again = self.use(number, text)
         if operator == "*":
             part = self.join(join, after, self.step(modality, parts[0], again))
         else:
@@ -295,15 +321,9 @@ class Formula:
             self.parser.refuse(
                 f"the variable {shown(name)} is under an odd number of negations inside its fixed point", at
             )
-        return number, {number}, name
+        return self.use(number, name)
 
-    def priority(self, operator, number):
-        if operator not in FIXED_POINTS:
-            return int(operator == "false")
-        inside = (
-            part
-            for part, free in zip(self.parts, self.free)
-            if part and part[0] in FIXED_POINTS and number in free
-        )
-        least = max((priority for _, priority, _, _ in inside), default=0)
-        return least + (least + (operator == "mu")) % 2
+    def use(self, number, name):
+        """A place of the variable of a fixed point."""
+        self.used.setdefault(number, []).append(self.node())
+        return number, self.used[number][-1], name

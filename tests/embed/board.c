@@ -79,6 +79,17 @@ static uint32_t solves_within(void)
     return pgboard_solve_within(&it, steps, &into, &report);
 }
 
+/* From arrays in which nothing is known. */
+static uint32_t solves_known_within(void)
+{
+    uint8_t no_winners[MOST];
+    memset(no_winners, PGBOARD_NO_WINNER, n);
+    struct pgboard_game it = game();
+    struct pgboard_solution known = {.size = sizeof known, .winners = no_winners, .winners_len = n, .choices = targets, .choices_len = n};
+    struct pgboard_results into = results();
+    return pgboard_solve_known_within(&it, &known, steps, &into, &report);
+}
+
 static uint32_t posts_zero(void)
 {
     return post_one(0, 0, 0);
@@ -267,7 +278,7 @@ static void gives_up(void)
     uint8_t right[MOST];
     ladder(12);
     uint64_t of_board = least_bound(finishes_within), of_game = least_bound(solves_within);
-    EXPECT(10 < of_game && of_game == of_board);
+    EXPECT(10 < of_game && of_game == of_board && of_game == least_bound(solves_known_within));
     steps = of_game;
     EXPECT(solves_within() == PGBOARD_OK);
     memcpy(right, winners, n);

@@ -692,6 +692,24 @@ static void tells_versions_and_texts(void)
                    strcmp(pgboard_strerror(answer), pgboard_strerror(before)) != 0);
 }
 
+/* A text is copied with its zero byte where it fits, and nothing else is written. */
+static void copies_texts(void)
+{
+    for (uint32_t answer = 0; answer <= 100; answer++) {
+        const char *wanted = answer < 100 ? pgboard_strerror(answer) : pgboard_version_string();
+        size_t size = strlen(wanted) + 1;
+        for (size_t into_len = size - 1; into_len <= size + 1; into_len++) {
+            char into[128], same[128];
+            memset(same, 77, sizeof same);
+            memcpy(into, same, sizeof into);
+            if (into_len >= size)
+                memcpy(same, wanted, size);
+            EXPECT((answer < 100 ? pgboard_copy_answer_text(answer, into, into_len) : pgboard_copy_version_text(into, into_len)) == size);
+            EXPECT(memcmp(into, same, sizeof same) == 0);
+        }
+    }
+}
+
 int main(void)
 {
     solves();
@@ -703,6 +721,7 @@ int main(void)
     keeps_a_known_choice();
     gives_up_from_what_is_known();
     tells_versions_and_texts();
+    copies_texts();
     takes_texts();
     refuses_texts();
     refuses_long_texts();

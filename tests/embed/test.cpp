@@ -1,4 +1,5 @@
 // Goes through the calls of include/pgboard.hpp. The last line is 'N passed, M failed'.
+#include <algorithm>
 #include <array>
 #include <atomic>
 #include <cstdlib>
@@ -33,6 +34,11 @@ template <class Of, class = void> struct takes_numbers : std::false_type {};
 template <class Of> struct takes_numbers<Of, std::void_t<decltype(Of{0, 1})>> : std::true_type {};
 static_assert(!std::is_constructible_v<numbers, std::initializer_list<std::uint32_t>> && !takes_numbers<numbers>::value);
 static_assert(std::is_constructible_v<numbers, std::uint32_t *, int> && std::is_constructible_v<numbers, std::array<std::uint32_t, 3> &>);
+static_assert(!std::is_constructible_v<pgboard::game_view, pgboard::game> && !std::is_constructible_v<pgboard::game_view, const pgboard::game>);
+static_assert(!std::is_constructible_v<pgboard::solution_view, pgboard::solution> && std::is_constructible_v<pgboard::solution_view, pgboard::solution &>);
+#if __cplusplus >= 202002L
+static_assert(std::ranges::input_range<pgboard::journal> && std::ranges::common_range<pgboard::journal>);
+#endif
 static_assert(std::is_nothrow_constructible_v<pgboard::game_view, const pgboard::game &> && std::is_nothrow_move_assignable_v<pgboard::board>);
 static_assert(noexcept(pgboard::try_check(two, pgboard::solution())) && noexcept(std::declval<const pgboard::board &>().settled()));
 static_assert(noexcept(std::declval<pgboard::board &>().try_post(0, numbers(), numbers())) && !noexcept(pgboard::check(two, pgboard::solution())));
@@ -132,6 +138,8 @@ static void views()
     EXPECT((found.winners == std::vector<std::uint8_t>{0, 1}) && (found.choices == std::vector<std::uint32_t>{0, 1}));
     const std::uint8_t known[] = {PGBOARD_NO_WINNER, 1};
     EXPECT(pgboard::solve(game, {{known, 2}, found.choices}).winners == found.winners);
+    const pgboard::solution_view part(known, found.choices);
+    EXPECT(pgboard::solve(game, part).choices == found.choices && pgboard::solve(loops(3, 1), pgboard::solve(loops(3, 1))).choices[2] == 2);
     std::uint32_t rows_of_game[] = {0, 2, 3};
     EXPECT(pgboard::solve({owners, priorities, rows_of_game, targets}, {known, found.choices}).choices == found.choices);
     EXPECT((pgboard::check(game, {found.winners, {found.choices.data(), 2}}), true));
@@ -162,6 +170,10 @@ static void answers()
     EXPECT(pgboard::try_solve_within(five, nothing, 0).answer == PGBOARD_GAVE_UP);
     EXPECT(pgboard::try_solve_within(five, nothing, more).value.winners == within.value.winners);
     EXPECT(pgboard::solve_within(five, within.value, 0).winners == within.value.winners);
+    EXPECT(pgboard::try_solve(five).value.choices == within.value.choices && pgboard::try_solve(five, nothing).value.choices == within.value.choices);
+    EXPECT(pgboard::try_solve(pgboard::game{{}, {}, {0}, {}}).answer == PGBOARD_NO_VERTEX);
+    const auto unknown = pgboard::try_solve(two, pgboard::solution{{0, PGBOARD_NO_WINNER}, {1, 1}});
+    EXPECT(!unknown && unknown.answer == PGBOARD_KNOWN_LEAVES && unknown.report.at == 0 && unknown.report.to == 1);
     // a verdict that is negative
     const auto verdict = pgboard::try_check(two, pgboard::solution{{0, 1}, {1, 1}});
     EXPECT(!verdict && verdict.answer == PGBOARD_LEAVES && verdict.report.at == 0 && verdict.report.to == 1);
@@ -174,8 +186,8 @@ static void answers()
     EXPECT(!unsolved && unsolved.answer == PGBOARD_GAME_SYNTAX && unsolved.report.at == 7 && unsolved.value.empty());
     EXPECT(!untidied && untidied.answer == PGBOARD_GAME_LEXICAL && untidied.report.at == 0);
     pgboard::board rest(five);
-    EXPECT(rest.try_finish_within(0) == PGBOARD_GAVE_UP && rest.entries() == 0 && rest.settled() == 0);
-    EXPECT(rest.try_finish_within(more) == PGBOARD_OK && rest.settled() == 5 && rest.solution().winners == within.value.winners);
+    EXPECT(rest.try_finish_within(0).answer == PGBOARD_GAVE_UP && rest.entries() == 0 && rest.settled() == 0);
+    EXPECT(rest.try_finish_within(more).answer == PGBOARD_OK && rest.settled() == 5 && rest.solution().winners == within.value.winners);
     pgboard::board board(two);
     const auto posted = board.try_post(1, {1}, {1});
     EXPECT(posted && posted.value.entry == 0 && posted.value.claimed == 1 && posted.value.settled == 1);
@@ -184,8 +196,27 @@ static void answers()
     const auto open = board.try_post(0, {0}, {1});
     EXPECT(!open && open.answer == PGBOARD_POST_OPEN && open.report.at == 0 && open.report.to == 1);
     EXPECT(board.try_post(0, {}, {}).answer == PGBOARD_POST_SHAPE && board.entries() == 1);
-    EXPECT(board.try_finish_within(more) == PGBOARD_OK && board.settled() == 2);
+    EXPECT(board.try_finish_within(more).answer == PGBOARD_OK && board.settled() == 2);
     EXPECT(board.entry(0).worker == 0);
+}
+
+// The same of a board that is opened, finished and read.
+static void answers_of_boards()
+{
+    auto opened = pgboard::board::try_open(five), of_text = pgboard::board::try_open_text("9 1 1 9; 3 2 0 3,9;");
+    EXPECT(opened && opened.value.vertices() == 5 && of_text && of_text.value.game().ids.back() == 9);
+    const auto wrong = pgboard::board::try_open(pgboard::game{{0, 1}, {2, 1}, {0, 2, 3}, {0, 7, 1}}), no_text = pgboard::board::try_open_text("0 0 0 ?;");
+    EXPECT(!wrong && wrong.answer == PGBOARD_UNKNOWN && wrong.report.at == 0 && wrong.report.to == 7 && wrong.value.vertices() == 0);
+    EXPECT(!no_text && no_text.answer == PGBOARD_GAME_LEXICAL && no_text.report.at == 6);
+    const auto unsettled = opened.value.try_solution();
+    EXPECT(!unsettled && unsettled.answer == PGBOARD_BOARD_UNSETTLED && unsettled.report.at == 5);
+    std::uint64_t steps = 0;
+    const auto part = opened.value.try_advance(steps);
+    EXPECT(!part && part.answer == PGBOARD_BOARD_UNSETTLED && part.report.at == 5);
+    EXPECT(opened.value.try_finish() && opened.value.try_advance(steps).report.at == 0);
+    EXPECT(opened.value.try_solution().value.choices == pgboard::solve(five).choices);
+    pgboard::board moved(std::move(opened.value));
+    EXPECT(opened.value.try_finish().answer == PGBOARD_BOARD_CLOSED && opened.value.try_solution().answer == PGBOARD_BOARD_CLOSED);
 }
 
 // What only reads takes a board that is const, and the journal is gone through from the first entry on.
@@ -203,6 +234,10 @@ static void readers()
     }
     EXPECT(next == 40 && same.journal().size() == 20 && same.journal()[19].worker == 38 && same.entry(3).worker == 6);
     EXPECT(std::distance(same.journal().begin(), same.journal().end()) == 20);
+    EXPECT(pgboard::journal::iterator() == pgboard::journal::iterator());
+#if __cplusplus >= 202002L
+    EXPECT(std::ranges::count(same.journal(), 38u, &pgboard::entry::worker) == 1);
+#endif
     EXPECT(same.journal().begin()->worker == 0 && std::next(same.journal().begin(), 2)->vertices == same.entry(2).vertices);
     auto at = same.journal().begin();
     EXPECT((*at++).worker == 0 && at->worker == 2);
@@ -238,14 +273,14 @@ static void parts()
     std::uint64_t steps = 0;
     for (int k = 0; k < 3000; k++)
         EXPECT(!board.advance(steps) && steps == 0);
-    EXPECT(board.try_advance(steps) == PGBOARD_BOARD_UNSETTLED && steps == 0 && board.settled() < 5);
+    EXPECT(board.try_advance(steps).answer == PGBOARD_BOARD_UNSETTLED && steps == 0 && board.settled() < 5);
     const std::uint64_t given = std::uint64_t{1} << 40;
     steps = given;
     EXPECT(board.advance(steps) && board.settled() == 5 && steps < given);
     const std::uint64_t taken = given - steps;
-    EXPECT(board.advance(steps) && board.try_advance(steps) == PGBOARD_OK && given - steps == taken);
+    EXPECT(board.advance(steps) && board.try_advance(steps).answer == PGBOARD_OK && given - steps == taken);
     EXPECT(journal_of(board) == journal_of(finished) && board.solution().choices == finished.solution().choices);
-    EXPECT(pgboard::board(five).try_finish_within(taken) == PGBOARD_OK && pgboard::board(five).try_finish_within(taken - 1) == PGBOARD_GAVE_UP);
+    EXPECT(pgboard::board(five).try_finish_within(taken).answer == PGBOARD_OK && pgboard::board(five).try_finish_within(taken - 1).answer == PGBOARD_GAVE_UP);
     // the caller may stop, post what it has found, and go on
     pgboard::board stopped(two);
     EXPECT(stopped.post(1, {1}, {1}, 8).entry == 0);
@@ -254,7 +289,7 @@ static void parts()
         steps = 1;
     EXPECT((stopped.solution().winners == std::vector<std::uint8_t>{0, 1}) && stopped.entry(0).worker == 8 && stopped.entry(1).worker == 0);
     pgboard::board moved(std::move(stopped));
-    EXPECT(refuses(PGBOARD_BOARD_CLOSED, 0, 0, [&] { stopped.advance(steps); }) && stopped.try_advance(steps) == PGBOARD_BOARD_CLOSED);
+    EXPECT(refuses(PGBOARD_BOARD_CLOSED, 0, 0, [&] { return stopped.advance(steps); }) && stopped.try_advance(steps).answer == PGBOARD_BOARD_CLOSED);
     EXPECT(moved.advance(steps));
     EXPECT(runs_out([] {
         pgboard::board some(five);
@@ -276,22 +311,23 @@ static void board_texts()
     EXPECT((read.ids == std::vector<std::uint32_t>{3, 9}) && (read.owners == std::vector<std::uint8_t>{0, 1}));
     EXPECT((read.priorities == std::vector<std::uint32_t>{2, 1}) && (read.targets == std::vector<std::uint32_t>{0, 1, 1}));
     EXPECT((read.starts == std::vector<std::uint32_t>{0, 2, 3}) && pgboard::solve(read).winners == pgboard::solve(two).winners);
-    EXPECT(refuses(PGBOARD_BOARD_UNSETTLED, 2, 0, [&] { board.solution_text(); }));
+    EXPECT(refuses(PGBOARD_BOARD_UNSETTLED, 2, 0, [&] { return board.solution_text(); }));
     // the vertices 3 and 9 are 0 and 1
     EXPECT(board.post(1, {1}, {1}).settled == 1);
-    EXPECT(refuses(PGBOARD_BOARD_UNSETTLED, 1, 0, [&] { board.solution_text(); }));
+    EXPECT(refuses(PGBOARD_BOARD_UNSETTLED, 1, 0, [&] { return board.solution_text(); }));
     board.finish();
     EXPECT((board.solution().winners == std::vector<std::uint8_t>{0, 1}) && board.solution_text() == "paritysol 9;\n3 0 3;\n9 1 9;\n");
     board = pgboard::board(two);
     board.finish();
     EXPECT(board.solution_text() == "paritysol 1;\n0 0 0;\n1 1 1;\n");
-    EXPECT(refuses(PGBOARD_GAME_LEXICAL, 6, 0, [] { pgboard::board::open_text("0 0 0 ?;"); }));
-    EXPECT(refuses(PGBOARD_GAME_SYNTAX, 0, 0, [] { pgboard::board::open_text({}); }));
-    EXPECT(refuses(PGBOARD_UNKNOWN, 7, 8, [] { pgboard::board::open_text("7 0 0 7, 8;"); }));
+    EXPECT(refuses(PGBOARD_GAME_LEXICAL, 6, 0, [] { return pgboard::board::open_text("0 0 0 ?;"); }));
+    EXPECT(refuses(PGBOARD_GAME_SYNTAX, 0, 0, [] { return pgboard::board::open_text({}); }));
+    EXPECT(refuses(PGBOARD_UNKNOWN, 7, 8, [] { return pgboard::board::open_text("7 0 0 7, 8;"); }));
     const pgboard::game same = board.game();
     EXPECT(same.targets == two.targets && same.starts == two.starts && (same.ids == std::vector<std::uint32_t>{0, 1}));
     pgboard::board moved(std::move(board));
-    EXPECT(refuses(PGBOARD_BOARD_CLOSED, 0, 0, [&] { board.solution_text(); }) && board.vertices() == 0 && board.game().ids.empty());
+    EXPECT(refuses(PGBOARD_BOARD_CLOSED, 0, 0, [&] { return board.solution_text(); }) && board.vertices() == 0);
+    EXPECT(refuses(PGBOARD_BOARD_CLOSED, 0, 0, [&] { return board.game(); }) && board.journal().begin() == board.journal().end());
     // texts with short rows and with long ones
     for (std::uint32_t first : {0u, 10u, 999990u, 2147483600u})
         for (std::uint32_t count : {1u, 2u, 40u}) {
@@ -303,11 +339,11 @@ static void board_texts()
             other.finish();
             EXPECT(other.solution_text() == pgboard::solve_text(loops));
         }
-    EXPECT(runs_out([&] { pgboard::board::open_text(text); }));
+    EXPECT(runs_out([&] { return pgboard::board::open_text(text); }));
     EXPECT(runs_out([&] {
         pgboard::board some = pgboard::board::open_text(text);
         some.finish();
-        some.solution_text();
+        return some.solution_text();
     }));
 }
 
@@ -324,9 +360,9 @@ static void sizes_and_memory()
     moved = pgboard::board(two);
     moved.finish();
     EXPECT((moved.solution().winners == std::vector<std::uint8_t>{0, 1}));
-    EXPECT(runs_out([] { pgboard::solve(five); }));
-    EXPECT(runs_out([] { pgboard::solve_within(five, 9); }));
-    EXPECT(runs_out([] { pgboard::solve_text("9 1 1 9; 3 2 0 3, 9;"); }));
+    EXPECT(runs_out([] { return pgboard::solve(five); }));
+    EXPECT(runs_out([] { return pgboard::solve_within(five, 9); }));
+    EXPECT(runs_out([] { return pgboard::solve_text("9 1 1 9; 3 2 0 3, 9;"); }));
     EXPECT(runs_out([] { pgboard::check(two, pgboard::solution{{0, 1}, {0, 1}}); }));
     EXPECT(runs_out([] { pgboard::board(two).finish(); }));
     EXPECT(has_its_report());
@@ -344,25 +380,25 @@ int main()
     EXPECT(pgboard::solve(two, pgboard::solution{{PGBOARD_NO_WINNER, 1}, {PGBOARD_NO_CHOICE, 1}}).winners == found.winners);
     const auto within = pgboard::solve_within(five, 9);
     EXPECT(within.winners == pgboard::solve(five).winners && within.choices == pgboard::solve(five).choices);
-    EXPECT(refuses(PGBOARD_GAVE_UP, 0, 0, [] { pgboard::solve_within(five, 0); }));
+    EXPECT(refuses(PGBOARD_GAVE_UP, 0, 0, [] { return pgboard::solve_within(five, 0); }));
     EXPECT((pgboard::check(two, found), true));
     EXPECT(pgboard::solve_text(text) == "paritysol 9;\n3 0 3;\n9 1 9;\n");
     EXPECT(pgboard::tidy_text(text) == "parity 9;\n3 2 0 3,9;\n9 1 1 9;\n");
     EXPECT((pgboard::verify_text(text, "9 1 9; 3 0 3;"), true));
     EXPECT(refuses(PGBOARD_LEAVES, 0, 1, [&] { pgboard::check(two, pgboard::solution{{0, 1}, {1, 1}}); }));
     EXPECT(refuses(PGBOARD_SOLUTION, PGBOARD_ARRAY_CHOICES, 0, [&] { pgboard::check(two, pgboard::solution{{0, 1}, {1}}); }));
-    EXPECT(refuses(PGBOARD_KNOWN_LEAVES, 0, 1, [&] { pgboard::solve(two, pgboard::solution{{0, PGBOARD_NO_WINNER}, {1, 1}}); }));
-    EXPECT(refuses(PGBOARD_LENGTHS, PGBOARD_ARRAY_STARTS, 0, [] { pgboard::solve({}); }));
-    EXPECT(refuses(PGBOARD_NO_VERTEX, 0, 0, [] { pgboard::solve(pgboard::game{{}, {}, {0}, {}}); }));
-    EXPECT(refuses(PGBOARD_GAME_LEXICAL, 6, 0, [] { pgboard::solve_text("0 0 0 ?;"); }));
-    EXPECT(refuses(PGBOARD_GAME_SYNTAX, 0, 0, [] { pgboard::tidy_text({}); }));
+    EXPECT(refuses(PGBOARD_KNOWN_LEAVES, 0, 1, [&] { return pgboard::solve(two, pgboard::solution{{0, PGBOARD_NO_WINNER}, {1, 1}}); }));
+    EXPECT(refuses(PGBOARD_LENGTHS, PGBOARD_ARRAY_STARTS, 0, [] { return pgboard::solve({}); }));
+    EXPECT(refuses(PGBOARD_NO_VERTEX, 0, 0, [] { return pgboard::solve(pgboard::game{{}, {}, {0}, {}}); }));
+    EXPECT(refuses(PGBOARD_GAME_LEXICAL, 6, 0, [] { return pgboard::solve_text("0 0 0 ?;"); }));
+    EXPECT(refuses(PGBOARD_GAME_SYNTAX, 0, 0, [] { return pgboard::tidy_text({}); }));
     EXPECT(refuses(PGBOARD_SOLUTION_MISSING, 3, 0, [&] { pgboard::verify_text(text, {}); }));
     pgboard::board first(two), board = std::move(first);
     EXPECT(refuses(PGBOARD_BOARD_CLOSED, 0, 0, [&] { first.finish(); }));
-    EXPECT(refuses(PGBOARD_POST_OPEN, 0, 1, [&] { board.post(0, {0}, {1}); }));
-    EXPECT(refuses(PGBOARD_POST_SHAPE, 0, 0, [&] { board.post(0, {}, {}); }));
-    EXPECT(refuses(PGBOARD_POST_LENGTHS, 1, 0, [&] { board.post(0, {0}, {}); }));
-    EXPECT(refuses(PGBOARD_BOARD_UNSETTLED, 2, 0, [&] { board.solution(); }));
+    EXPECT(refuses(PGBOARD_POST_OPEN, 0, 1, [&] { return board.post(0, {0}, {1}); }));
+    EXPECT(refuses(PGBOARD_POST_SHAPE, 0, 0, [&] { return board.post(0, {}, {}); }));
+    EXPECT(refuses(PGBOARD_POST_LENGTHS, 1, 0, [&] { return board.post(0, {0}, {}); }));
+    EXPECT(refuses(PGBOARD_BOARD_UNSETTLED, 2, 0, [&] { return board.solution(); }));
     const auto posted = board.post(1, {1}, {1}, 8);
     EXPECT(posted.entry == 0 && posted.claimed == 1 && posted.settled == 1);
     EXPECT((board.state().winners == std::vector<std::uint8_t>{PGBOARD_NO_WINNER, 1}) && board.settled() == 1);
@@ -370,7 +406,7 @@ int main()
     EXPECT(board.entries() == 2 && board.solution().winners == found.winners && board.solution().choices == found.choices);
     const auto entry = board.entry(0);
     EXPECT(entry.worker == 8 && entry.player == 1 && entry.claimed == 1 && entry.vertices == std::vector<std::uint32_t>{1} && entry.choices == entry.vertices);
-    EXPECT(refuses(PGBOARD_BOARD_ENTRY, 2, 0, [&] { board.entry(2); }));
+    EXPECT(refuses(PGBOARD_BOARD_ENTRY, 2, 0, [&] { return board.entry(2); }));
     board = pgboard::board(two);
     EXPECT(board.entries() == 0);
     // the searches settle both vertices, and nothing is left that needs a step
@@ -394,6 +430,7 @@ int main()
     }
     views();
     answers();
+    answers_of_boards();
     readers();
     parts();
     board_texts();

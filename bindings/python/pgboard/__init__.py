@@ -1,6 +1,7 @@
 """Solutions of parity games, and their check, by the library of include/pgboard.h, over ctypes alone.
 
-    >>> winners, choices = solve(owners=[0, 1], priorities=[2, 1], successors=[[0, 1], [1]])
+    >>> import pgboard
+    >>> winners, choices = pgboard.solve(owners=[0, 1], priorities=[2, 1], successors=[[0, 1], [1]])
     >>> winners, choices
     ([0, 1], [0, 1])
 
@@ -12,26 +13,33 @@ which says what to do. Ctrl-C ends a call of the main thread that solves, and `t
 of any thread.
 """
 
+from .faults import *  # noqa: F401,F403
+from .faults import NAMES
 from .version import __version__  # noqa: F401
+
+__all__ = [
+    "NO_CHOICE", "NO_WINNER", "Board", "Buffer", "Cancel", "Entries", "Entry", "Posted", "Solution", "Vertex", "__version__", "build",
+    "read_game", "solve", "solve_csr", "solve_file", "solve_graph", "solve_text", "tidy_text", "verify", "verify_csr", "verify_text", *NAMES,
+]  # fmt: skip
 
 TYPE_CHECKING = False
 if TYPE_CHECKING:
-    from .calls import *  # noqa: F401,F403
-    from .calls import __all__  # noqa: F401
-    from .faults import *  # noqa: F401,F403
+    from .arrays import Buffer, Solution
+    from .board import Board, Entries, Entry, Posted, Vertex
+    from .calls import solve, solve_csr, solve_file, solve_graph, solve_text, tidy_text, verify, verify_csr, verify_text
+    from .files import read_game
+    from .library import NO_CHOICE, NO_WINNER, build
+    from .slices import Cancel
+else:
 
+    def __getattr__(name):
+        """Imports the calls when one of them is used, so that the command starts without them."""
+        if name not in __all__:
+            raise AttributeError(f"module {__name__!r} has no attribute {name!r}")
+        from . import calls
 
-def __getattr__(name: str) -> object:
-    """Loads the calls, and the library with them, when something is used. The command works without the
-    library too.
-    """
-    import importlib
-
-    if name == "command":
-        return importlib.import_module(".command", __name__)
-    calls = importlib.import_module(".calls", __name__)
-    found = {it: getattr(calls, it) for it in (*calls.__all__, "__all__")}
-    globals().update(found)
-    if name in globals():
+        globals().update({it: getattr(calls, it) for it in __all__})
         return globals()[name]
-    raise AttributeError(f"module {__name__!r} has no attribute {name!r}")
+
+    def __dir__():
+        return sorted({*globals(), *__all__})

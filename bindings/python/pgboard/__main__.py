@@ -1,4 +1,6 @@
-"""The command `python3 -m pgboard`. At the top of a clone `python3 bindings/python/pgboard` is the same."""
+"""The command `python3 -m pgboard`, which a wheel also installs as `pgboard-python`. At the top of a clone
+`python3 bindings/python/pgboard` is the same.
+"""
 
 # mypy: ignore-errors
 
@@ -11,10 +13,21 @@ if _signal.getsignal(_signal.SIGINT) != _signal.SIG_IGN:
 import os
 import sys
 
+# (1 is an answer)
+sys.excepthook = lambda *error: (sys.__excepthook__(*error), os._exit(7))
 if not __package__:
     sys.path[0] = os.path.dirname(os.path.dirname(os.path.abspath(__file__)))
+elif not (sys.flags.isolated or getattr(sys.flags, "safe_path", False)):
+    # under -m it is the current folder, whose files may be named as Python's modules are
+    del sys.path[0]
 
 from pgboard.command import run
 from pgboard.command.words import main
 
-run("pgboard", main)
+
+def command():
+    run("pgboard", main)
+
+
+if __name__ == "__main__":
+    command()

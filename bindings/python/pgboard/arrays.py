@@ -4,6 +4,7 @@ refused where C could not read it.
 
 from __future__ import annotations
 
+import importlib
 import operator
 from array import array
 from itertools import accumulate
@@ -48,6 +49,14 @@ class Solution(NamedTuple):
 
     winners: Ints
     choices: Ints
+
+    def strategy(self) -> Any:
+        """The choices as a matrix of SciPy in the form csr: row v has True at what the winner of v chooses there."""
+        numpy, sparse = importlib.import_module("numpy"), importlib.import_module("scipy.sparse")
+        choices = numpy.array(self.choices)
+        (vertices,) = numpy.nonzero(choices != NO_CHOICE)
+        size = len(choices)
+        return sparse.csr_matrix((numpy.ones(len(vertices), bool), (vertices, choices[vertices])), shape=(size, size))
 
 
 # the formats of items that are integers in this machine's order of bytes, and those of them that C takes as
@@ -110,6 +119,13 @@ def numbers(name: str, code: str, values: Numbers) -> Ints:
         for at, it in enumerate(held):
             number_of(f"{name}[{at}]", it, 2 ** (8 * array(code).itemsize) - 1)
         raise
+
+
+def text_bytes(text: Text) -> Ints:
+    """The bytes of a text; TypeError for what is none."""
+    if not isinstance(text, (str, bytes)):
+        raise TypeError(f"a text is bytes or str, not {type(text).__name__}")
+    return array("B", text.encode("utf-8") if isinstance(text, str) else text)
 
 
 def rows_of(successors: Iterable[Numbers]) -> tuple[Ints, Ints]:

@@ -14,10 +14,10 @@ from array import array
 from collections.abc import Mapping as MappingOf
 from collections.abc import Sequence as SequenceOf
 from itertools import compress
-from typing import TYPE_CHECKING, Any, Iterable, Iterator, Mapping, NamedTuple, TypeVar, overload
+from typing import TYPE_CHECKING, Any, Callable, Iterable, Iterator, Mapping, NamedTuple, TypeVar, overload
 
 from . import faults, native, slices
-from .arrays import Buffer, Numbers, Rows, Solution, game_of, game_views, moves_of, numbers, view_of
+from .arrays import Buffer, Numbers, Rows, Solution, Text, game_of, game_views, moves_of, numbers, text_bytes, view_of
 from .library import NO_CHOICE, NO_WINNER, Handle, Ints, bound, index_of, number_of, own, owned
 from .slices import Cancel, Slice, limits_of
 from .solving import blank
@@ -54,6 +54,15 @@ class Entry(NamedTuple):
     choices: Ints
 
 
+class Vertex(NamedTuple):
+    """A vertex of a board's game: its identifier in the game's text, or its number in arrays; and its successors, each once, which rise."""
+
+    id: int
+    priority: int
+    owner: int
+    successors: Ints
+
+
 AnyBoard = TypeVar("AnyBoard", bound="Board")
 
 
@@ -73,7 +82,7 @@ class Board:
 
     def __init__(self, owners: Numbers, priorities: Numbers, successors: Iterable[Numbers], *, dead_ends: bool = False, least: bool = False) -> None:
         """Takes a game as `solve` does. Nothing of it is settled. Raises Refused."""
-        self._open(*game_of(owners, priorities, successors), dead_ends, least)
+        self._open_arrays(*game_of(owners, priorities, successors), dead_ends, least)
 
     @classmethod
     def from_csr(
@@ -88,21 +97,32 @@ class Board:
     ) -> AnyBoard:
         """A board of a game in compressed sparse rows, which are copied, as `solve_csr` takes them."""
         board = cls.__new__(cls)
-        board._open(owners, priorities, indptr, indices, dead_ends, least)
+        board._open_arrays(owners, priorities, indptr, indices, dead_ends, least)
         return board
 
-    def _open(self, *given: Any) -> None:
+    @classmethod
+    def from_text(cls: type[AnyBoard], game: Text) -> AnyBoard:
+        """A board of a game's text in PGSolver's format. Its vertices have the numbers from 0 on, in the order of their identifiers."""
+        board, given = cls.__new__(cls), text_bytes(game)
+        board._open(lambda handle: handle.open_text(given))
+        return board
+
+    def _open_arrays(self, *given: Any) -> None:
         game = owned(game_views(*given))
-        size = len(game[0])
+        self._open(lambda handle: handle.open(game))
+
+    def _open(self, opened: Callable[[Handle], None]) -> None:
         # (a handler of a signal may call the board that its thread calls)
         self._lock, self._handle = threading.RLock(), Handle()
         # the threads that have it or wait for it
         self._users: set[int] = set()
-        self._seen, self._state = 0, Solution(array("B", [NO_WINNER]) * size, array("I", [NO_CHOICE]) * size)
+        self._seen, self._state = 0, blank(0)
         # (before it opens, since an exception of a signal's handler may come once it is open)
         self._close = weakref.finalize(self, self._handle.close)
         self._close.atexit = False
-        self._handle.open(game)
+        opened(self._handle)
+        size = self._handle.count("vertices")
+        self._state = Solution(array("B", [NO_WINNER]) * size, array("I", [NO_CHOICE]) * size)
 
     @contextlib.contextmanager
     def _turn(self) -> Iterator[None]:
@@ -183,6 +203,21 @@ class Board:
         return None if winner == NO_WINNER else winner, None if choice == NO_CHOICE else choice
 
     @property
+    def vertices(self) -> int:
+        """How many vertices the game has."""
+        return self._count("vertices")
+
+    def vertex(self, v: int) -> Vertex:
+        """A vertex of the game. Raises IndexError for what is none."""
+        number = index_of("a vertex", v)
+        with self._turn():
+            if not 0 <= number < self._count("vertices"):
+                raise IndexError(f"{v} is no vertex")
+            numbers, (successors,) = self._handle.read("vertex", number, native.VERTEX.size, 1)
+        id, priority, owner, _ = native.VERTEX.unpack(numbers)
+        return Vertex(id, priority, owner, successors)
+
+    @property
     def settled(self) -> int:
         """How many vertices are settled."""
         return self._count("settled")
@@ -200,7 +235,7 @@ class Board:
 
     def _entry(self, number: int) -> Entry:
         with self._turn():
-            numbers, vertices, choices = self._handle.entry(number)
+            numbers, (vertices, choices) = self._handle.read("entry", number, native.ENTRY.size, 2)
         worker, player, claimed, _ = native.ENTRY.unpack(numbers)
         return Entry(worker, player, claimed, vertices, choices)
 
@@ -227,6 +262,13 @@ class Board:
         with self._turn():
             self._handle.write("solution", found)
         return found
+
+    def solution_text(self) -> str:
+        """The solution of a full board as text, with the identifiers of the game's text. Raises Unsettled as `solution` does."""
+        # (a first line, and a row with two numbers for each vertex, of 10 digits at most)
+        into = array("B", bytes(22 + 25 * len(self._state.winners)))
+        with self._turn():
+            return self._handle.solution_text(into)
 
     def close(self) -> None:
         """Frees the board, and ends `finish` in other threads after a slice. To close it again does nothing."""

@@ -9,21 +9,16 @@ from typing import Any, Iterable, Sequence
 from . import faults
 
 from .arrays import (
-    Buffer, MaybeNumbers, Numbers, Rows, Solution, Text, claim_views, claims_of, game_of, game_views, pair_of,
+    Buffer, MaybeNumbers, Numbers, Rows, Solution, Text, claim_views, claims_of, game_of, game_views, pair_of, text_bytes,
 )  # fmt: skip
-from .board import Board, Entries, Entry, Posted
+from .board import Board, Entries, Entry, Posted, Vertex  # noqa: F401
 from .faults import *  # noqa: F401,F403
-from .files import read_game
-from .library import NO_CHOICE, NO_WINNER, bound, number_of, owned, run, written
+from .files import read_bytes, read_game  # noqa: F401
+from .library import NO_CHOICE, NO_WINNER, bound, build, number_of, owned, run, written  # noqa: F401
 from .native import span_of, struct_of
 from .slices import Cancel, limits_of
 from .solving import blank_text, solve_arrays, solve_bytes
-from .version import __version__
-
-__all__ = [
-    "NO_CHOICE", "NO_WINNER", "Board", "Buffer", "Cancel", "Entries", "Entry", "Posted", "Solution", "__version__", "read_game", "solve", "solve_csr",
-    "solve_file", "solve_graph", "solve_text", "tidy_text", "verify", "verify_csr", "verify_text", *faults.NAMES,
-]  # fmt: skip
+from .version import __version__  # noqa: F401
 
 
 def solve_csr(
@@ -46,9 +41,9 @@ def solve_csr(
     in the form csr may be given for both `indptr` and `indices`: what it stores are edges. Returns arrays of
     the winners and of their choices, which have NO_CHOICE where the winner doesn't own the vertex.
 
-    `known` has winners (NO_WINNER where there is none) and choices in the same form. `steps` bounds
-    Zielonka's recursion, which has an exponential bound: GaveUp is raised if it begins more
-    subgames. With `dead_ends` a vertex without successors is lost by its owner. With
+    `known` has winners (NO_WINNER where there is none) and choices in the same form. `steps` limits
+    Zielonka's recursion: GaveUp is raised if it begins more subgames, and never for n vertices of
+    d priorities from 3 * (n + 1) ** d - 2 on. With `dead_ends` a vertex without successors is lost by its owner. With
     `least` the least priority that is seen again and again decides.
 
     Raises TimedOut before a slice that would begin after `timeout` seconds, and Cancelled once another
@@ -130,33 +125,26 @@ def verify(
     verify_csr(*game, *claims, dead_ends=dead_ends, least=least)
 
 
-def text_bytes(text: Text) -> bytes:
-    if isinstance(text, str):
-        return text.encode("utf-8")
-    if isinstance(text, bytes):
-        return text
-    raise TypeError(f"a text is bytes or str, not {type(text).__name__}")
-
-
 def solve_text(game: Text, *, timeout: float | None = None, cancel: Cancel | None = None) -> str:
     """A solution's text of a game's text in PGSolver's format. Raises what `solve` does."""
     limits = limits_of(timeout, cancel)
-    return solve_bytes(array("B", text_bytes(game)), limits)
+    return solve_bytes(text_bytes(game), limits)
 
 
 def solve_file(
     path: str | bytes | os.PathLike[str], *, timeout: float | None = None, cancel: Cancel | None = None
 ) -> str:
-    """A solution's text of the game that a file has as text. Raises OSError where the file can't be read,
-    and what `solve_text` raises.
+    """A solution's text of the game that a file has as text, which may be packed, or of standard input for
+    `-`. Raises OSError where the file can't be read, ValueError where it can't be unpacked or has more bytes
+    than a text may have, and what `solve_text` raises.
     """
-    with open(path, "rb") as file:
-        return solve_text(file.read(), timeout=timeout, cancel=cancel)
+    limits = limits_of(timeout, cancel)
+    return solve_bytes(array("B", read_bytes(path)), limits)
 
 
 def tidy_text(game: Text) -> str:
     """The one written form of a game's text. Raises what `solve_text` does."""
-    given = array("B", text_bytes(game))
+    given = text_bytes(game)
     return written(blank_text(given), "pgboard_tidy_text", *span_of(given))
 
 
@@ -164,7 +152,7 @@ def verify_text(game: Text, solution: Text) -> None:
     """Looks whether a text is a solution of a game's text, and raises NotASolution if it is none. Raises
     what `solve_text` does too.
     """
-    given = [array("B", text_bytes(it)) for it in (game, solution)]
+    given = [text_bytes(it) for it in (game, solution)]
     run("pgboard_verify_text", *span_of(given[0]), *span_of(given[1]))
 
 

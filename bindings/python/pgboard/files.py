@@ -22,11 +22,22 @@ class Game(NamedTuple):
     indices: Ints
 
 
+def read_bytes(path: str | bytes | os.PathLike[str]) -> bytes:
+    """The bytes of a file, or for `-` of standard input, unpacked. Raises what `read_game` does."""
+    from .command import Refused
+    from .command.texts import bytes_of
+
+    try:
+        return bytes(*bytes_of(os.fsdecode(path)))
+    except Refused as refused:
+        raise ValueError(str(refused)) from None
+
+
 def read_game(
     path: str | os.PathLike[str], *, least: bool = False, odd: bool = False, dead_ends: bool = False
 ) -> Game:
-    """The game of a file, which may be packed, with the rules that its text does not say. Vertices have the
-    order of their identifiers. Raises OSError where the file can't be read, and ValueError, which names the
+    """The game of a file, which may be packed, or for `-` of standard input, with the rules that its text
+    does not say. Vertices have the order of their identifiers. Raises OSError where the file can't be read, and ValueError, which names the
     place, where it has no game.
     """
     from .command import Refused

@@ -1,10 +1,11 @@
-"""The library of include/pgboard.h, which is found and loaded when this module is imported, and calls of it
-on copies of memory.
+"""The library of include/pgboard.h, which is found and loaded at the first call, and calls of it on copies
+of memory.
 """
 
 from __future__ import annotations
 
 import ctypes
+import functools
 import math
 import operator
 import os
@@ -32,30 +33,23 @@ VERSION = NUMBERS[0] * 10000 + NUMBERS[1] * 100 + NUMBERS[2]
 # (the number is that of the interface, as in ./package)
 SONAME = "libpgboard.so.0"
 HERE = os.path.dirname(os.path.abspath(__file__))
-# the commands that build it, at the top of the repository
-OUT = "crates/pgboard_c/out"
-WHOLE = f"-Wl,--whole-archive {OUT}/libpgboard_c.a -Wl,--no-whole-archive"
-LINK = f'cc -shared -o {OUT}/libpgboard.so {WHOLE} "$(dirname "$(rt doc)")/c/liblibc_c.a"'
-BUILD = f"`(cd crates/pgboard_c && rt lib)` and `{LINK}`"
+# where a clone's own builds are, a proved one first
+BUILT = [os.path.normpath(os.path.join(HERE, "../../../out", it, "libpgboard.so")) for it in ("proved", "unproved")]
 
 
 def path_of_library() -> str:
     """The file that PGBOARD_LIBRARY names, else the one of the wheel, else of the repository, else of the
     system.
     """
-    beside = os.path.join(HERE, "libpgboard.so")
-    built = os.path.normpath(
-        os.path.join(HERE, "..", "..", "..", "crates", "pgboard_c", "out", "libpgboard.so")
-    )
-    there = [os.environ.get("PGBOARD_LIBRARY"), *filter(os.path.exists, [beside, built])]
-    return next(filter(None, there), SONAME)
+    there = [it for it in (os.path.join(HERE, "libpgboard.so"), *BUILT) if os.path.exists(it)]
+    return os.environ.get("PGBOARD_LIBRARY") or [*there, SONAME][0]
 
 
 def load() -> ctypes.CDLL:
     """The library; ImportError, which says what to do, where it isn't there or is of another version."""
     what_to_do = (
-        "install the wheel that ./package makes, or set PGBOARD_LIBRARY to the path of libpgboard.so, "
-        f"which {BUILD} make"
+        "build one by `./pgboard --library` at the top of the repository, with `--unproved` before it in a minute, "
+        "without proofs; or install the wheel that ./package makes, or set PGBOARD_LIBRARY to the path of libpgboard.so"
     )
     try:
         return native.load(path_of_library(), VERSION)
@@ -65,7 +59,28 @@ def load() -> ctypes.CDLL:
         raise ImportError(f"pgboard: {error}: {what_to_do}") from None
 
 
-LIBRARY = load()
+class Library:
+    """The library, which is loaded when one of its calls is used."""
+
+    @functools.cached_property
+    def loaded(self) -> ctypes.CDLL:
+        native.check_processor()
+        return load()
+
+    def __getattr__(self, name: str) -> Any:
+        return getattr(self.loaded, name)
+
+
+LIBRARY = Library()
+
+
+def build() -> str:
+    """What the loaded library is: 'proved', or 'unproved' with the commit of its sources."""
+    try:
+        text = (ctypes.c_char * 100).in_dll(LIBRARY.loaded, "pgboard_unproved")
+    except ValueError:
+        return "proved"
+    return ctypes.string_at(text).decode("ascii")
 
 
 def index_of(name: str, value: Any) -> int:
@@ -128,7 +143,8 @@ class Handle:
     """A board of the library, which is closed at first. The library takes one call at a time on it."""
 
     def __init__(self) -> None:
-        self.memory = ctypes.create_string_buffer(16)
+        # (without a library there is no board that has to be closed)
+        self.memory, self.end = ctypes.create_string_buffer(16), LIBRARY.pgboard_board_close
 
     def open(self, game: Sequence[Ints]) -> None:
         run("pgboard_board_open", self.memory, native.struct_of(game))
@@ -161,12 +177,12 @@ class Handle:
     def count(self, what: str) -> int:
         return int(getattr(LIBRARY, f"pgboard_board_{what}")(self.memory))
 
-    def entry(self, number: int) -> tuple[bytes, Ints, Ints]:
-        """The numbers, the vertices and the choices of an entry."""
-        outcome, found = native.entry_of(LIBRARY, self.memory, number)
+    def read(self, what: str, number: int, size: int, rows: int) -> tuple[bytes, list[Ints]]:
+        """The numbers, in so many bytes, and the arrays of an entry or a vertex."""
+        outcome, found = native.read(LIBRARY, f"pgboard_board_{what}", self.memory, number, size, rows)
         if outcome[0]:
             raise fault_of(*outcome)
         return found
 
     def close(self) -> None:
-        LIBRARY.pgboard_board_close(self.memory)
+        self.end(self.memory)

@@ -24,7 +24,7 @@ dominion_later : (g : Graph) (journal added : Journal) (k : ℕ) (p : Player) (r
     → IsDominionAfter g (journal ++ added) k p rows
 dominion_later g journal added k p rows h0 = grind (arith, length-append, take-append-le)
 
-stays_shut : (journal added : Journal) (v : ℕ) → is_unsettled (state_of journal v) ≡ false → is_unsettled (state_of (journal ++ added) v) ≡ false
+pub stays_shut : (journal added : Journal) (v : ℕ) → is_unsettled (state_of journal v) ≡ false → is_unsettled (state_of (journal ++ added) v) ≡ false
 stays_shut journal added v h = ap is_unsettled (state_append journal added v ∙ rw h refl) ∙ h
 
 -- where two claims share out what was unsettled, all is settled once both were posted

@@ -2,15 +2,20 @@
 use Rattle.pg_board.proofs.Common.{◌≡◌, ◌≤◌, ◌<◌, ◌+◌, ℕ, zero, suc, Bool, true, false, inl, inr, List, [], ◌∷◌, length, refl, sym, ◌∙◌, ap, arith}
 use Rattle.pg_board.proofs.Common.{rules, length-set, eq-eqb, nat_eq, cases_lt, and-false, Option, None, Some, IsDistinct, recursion_from_All}
 use Rattle.pg_board.proofs.Common.{members, unsettled, is_unsettled, state_of, IsLawful, number_settled, named, BoardRecord}
-use Rattle.std.specs.Prelude.{slice_set}
+use Rattle.pg_board.proofs.Common.{Graph, Journal, cases_Bool, false_from_ne_true, and_parts, fun_ext, subst, VertexSet, all_vertices}
+use Rattle.std.specs.Prelude.{slice_set, nat_lt}
+use Rattle.std.proofs.lemmas.Bool.{and_from}
 use Rattle.std.specs.List.{AllByRecursion}
 use Rattle.std.proofs.lemmas.List.{get_or-set_other}
 use Rattle.std.proofs.lemmas.List.Sums.{count_by-le-length, sum_by-append}
 use Rattle.std.proofs.lemmas.Map.Keys.{IsDistinct-head, IsDistinct-tail}
 use Rattle.pg_game.specs.VertexSet.{how_many}
-use Rattle.pg_finders.specs.Steps.{steps}
-use Rattle.pg_finders.proofs.Masks.{counted, how_many-set}
-use Rattle.pg_board.specs.Finish.{IsContinued, MayGiveUp, number_unsettled}
+use Rattle.pg_finders.specs.Steps.{priority_count, steps}
+use Rattle.pg_finders.proofs.Masks.{counted, how_many-set, how_many-unset}
+use Rattle.pg_finders.proofs.Sets.{no_both}
+use Rattle.pg_board.proofs.OwnEntries.{stays_shut}
+use Rattle.pg_finders.proofs.Steps.{count_grow, steps_grow}
+use Rattle.pg_board.specs.Finish.{IsContinued, MayGiveUp, number_unsettled, priorities_unsettled}
 use Rattle.pg_board.proofs.Distinct.{AllRows, each_named}
 use Rattle.pg_dominion.proofs.RowsByPlace.{in_vertices}
 use Rattle.pg_board.proofs.Numbers.{settled_list, number_is, settled_vertices, below}
@@ -51,22 +56,33 @@ how_many-unsettled b mask lawful sized are =
         let shut : is_unsettled (state_of b.journal v) ≡ false = search (rules, settled_vertices b.journal v, i) in
         (omega (arith, below b.graph b.journal lawful v i, sized), are v ∙ rw shut (and-false _))
 
-steps_grow : (m n : ℕ) → m ≤ n → steps m ≤ steps n
-steps_grow zero zero l = omega arith
-steps_grow zero (suc n) l = let h = steps_grow zero n (omega arith) in omega (arith, h)
-steps_grow (suc m) zero l = absurd (omega (arith, l))
-steps_grow (suc m) (suc n) l = let h = steps_grow m n (omega (arith, l)) in omega (arith, h)
+-- a mask that has no vertex
+pub no_member : (mask : List Bool) → how_many mask ≡ 0 → (v : ℕ) → members mask v ≡ false
+no_member mask e v = false_from_ne_true (members mask v) (λ i. (let h = how_many-unset mask v i in absurd (omega (arith, h, e))))
 
-pub gives_up_before : (limit : Option ℕ) (m n : ℕ) → m ≤ n → MayGiveUp limit m → MayGiveUp limit n
-gives_up_before None m n l h = h
-gives_up_before (Some k) m n l h = omega (arith, h, steps_grow m n l)
+-- the priorities of such a mask
+pub same_priorities : (b : BoardRecord) (g : Graph) (mask : List Bool) → g ≡ b.graph → ((v : ℕ) → members mask v ≡ unsettled b.graph (state_of b.journal) v)
+    → priority_count g (members mask) ≡ priorities_unsettled b
+same_priorities b g mask graph are =
+    ap (λ (h : Graph). priority_count h (members mask)) graph ∙ ap (λ (U : VertexSet). priority_count b.graph U) (fun_ext are)
 
--- who gives up has not got enough
-pub may_give_up : (limit : Option ℕ) (m : ℕ) (Found : Type 0) → (Found → ⊥) → (limit ≡ None → Found) → ((k : ℕ) → limit ≡ Some k → steps m ≤ k → Found)
-    → MayGiveUp limit m
-may_give_up None m Found never unlimited enough = never (unlimited refl)
-may_give_up (Some k) m Found never unlimited enough = elim (cases_lt k (steps m)) [
-  | inl lt ↦ lt
+-- what is unsettled has no more priorities than the game
+pub open_priorities : (b : BoardRecord) (g : Graph) → b.graph ≡ g → priorities_unsettled b ≤ priority_count g (all_vertices g)
+open_priorities b g graph = subst (λ (h : Graph). priorities_unsettled b ≤ priority_count h (all_vertices h)) graph
+    (count_grow b.graph (λ v i. (and_parts (nat_lt v (length b.graph)) (is_unsettled (state_of b.journal v)) i).0))
+
+-- who gives up on fewer vertices may do so on more
+pub gives_up_before : (limit : Option ℕ) (d e m n : ℕ) → d ≤ e → m ≤ n → MayGiveUp limit d m → MayGiveUp limit e n
+gives_up_before None d e m n k l h = h
+gives_up_before (Some x) d e m n k l h = (omega (arith, h.0, l), omega (arith, h.1, steps_grow d e m n k l))
+
+-- who gives up has a vertex, and has not got enough
+pub may_give_up : (limit : Option ℕ) (d m : ℕ) (Found : Type 0) → (Found → ⊥) → (m ≡ 0 → Found) → (limit ≡ None → Found)
+    → ((k : ℕ) → limit ≡ Some k → steps d m ≤ k → Found) → MayGiveUp limit d m
+may_give_up None d m Found never nothing unlimited enough = never (unlimited refl)
+may_give_up (Some k) d zero Found never nothing unlimited enough = absurd (never (nothing refl))
+may_give_up (Some k) d (suc m) Found never nothing unlimited enough = elim (cases_lt k (steps d (suc m))) [
+  | inl lt ↦ (omega arith, lt)
   | inr ge ↦ absurd (never (enough k refl ge))
 ]
 
@@ -77,3 +93,15 @@ fewer_unsettled old new more =
     ap number_settled more.journal ∙ sum_by-append (λ e. length e.rows) old.journal more.added in
     let same : length new.graph ≡ length old.graph = rw more.graph refl in
     omega (arith, added, same)
+
+pub fewer_priorities : (old new : BoardRecord) → IsContinued old new → priorities_unsettled new ≤ priorities_unsettled old
+fewer_priorities old new more =
+    subst (λ (g : Graph). priority_count g (unsettled g (state_of new.journal)) ≤ priorities_unsettled old) (sym more.graph)
+    (count_grow old.graph (λ v i. (let b = and_parts (nat_lt v (length old.graph)) (is_unsettled (state_of new.journal v)) i in
+    and_from (nat_lt v (length old.graph)) (is_unsettled (state_of old.journal v)) b.0 (still_open v b.1))))
+  where
+    still_open : (v : ℕ) → is_unsettled (state_of new.journal v) ≡ true → is_unsettled (state_of old.journal v) ≡ true
+    still_open v u = elim (cases_Bool (is_unsettled (state_of old.journal v))) [
+      | inl y ↦ y
+      | inr n ↦ absurd (no_both u (subst (λ (j : Journal). is_unsettled (state_of j v) ≡ false) (sym more.journal) (stays_shut old.journal more.added v n)))
+    ]

@@ -8,7 +8,7 @@ ghost use Rattle.pg_board.specs.declared.journal.Refusal.{Refusal};
 ghost use Rattle.pg_board.specs.State.{unsettled};
 ghost use Rattle.pg_board.specs.Journal.{state_of, IsLawful, IsDominionAfter};
 ghost use Rattle.pg_board.specs.Full.{IsFull};
-ghost use Rattle.pg_board.specs.Finish.{IsContinued, IsLater, IsFinishAnswer, MayGiveUp, number_unsettled};
+ghost use Rattle.pg_board.specs.Finish.{IsContinued, IsLater, IsFinishAnswer, MayGiveUp, number_unsettled, priorities_unsettled};
 ghost use Rattle.pg_board.specs.private.Contents.{Settles};
 
 use crate::board::Board;
@@ -48,7 +48,7 @@ impl<'g> Board<'g> {
         ensures later { IsLater (Even ∷ Odd ∷ []) self.old self.new }
         ensures full { IfOk result (λ done. done ≡ true → IsFull self.new.graph (state_of self.new.journal)) }
         ensures gave_up { IfOk result (λ done. done ≡ false → self.new ≡ self.old) }
-        ensures limited { IfOk result (λ done. done ≡ false → MayGiveUp limit (number_unsettled self.old)) }
+        ensures limited { IfOk result (λ done. done ≡ false → MayGiveUp limit (priorities_unsettled self.old) (number_unsettled self.old)) }
     {
         if self.contents.is_full(self.game) {
             return Ok(true);
@@ -66,7 +66,7 @@ impl<'g> Board<'g> {
         ensures lawful { IfOk result (λ _. IsLawful self.new.graph self.new.journal) }
         ensures continued { IsContinued self.old self.new }
         ensures full { IfOk result (λ done. done ≡ true → IsFull self.new.graph (state_of self.new.journal)) }
-        ensures limited { IfOk result (λ done. done ≡ false → MayGiveUp limit (number_unsettled self.old)) }
+        ensures limited { IfOk result (λ done. done ≡ false → MayGiveUp limit (priorities_unsettled self.old) (number_unsettled self.old)) }
     {
         self.post_jobs(alloc)?;
         self.post_rest(alloc, limit)

@@ -49,11 +49,11 @@ pub use Rattle.pg_finders.specs.private.recursion.TakenVertices.{AttractsNoActiv
 pub use Rattle.pg_finders.specs.private.recursion.Listed.{Apart, Once, listed}
 pub use Rattle.pg_finders.specs.private.recursion.Order.{AllStand, AreDistinct, AreGreatest, AreVertices, IsLast, IsOrder, priority_at}
 pub use Rattle.pg_finders.specs.private.recursion.Plans.{IsGiven, SameAt, SameOutside, choices_of, winners_of}
-pub use Rattle.pg_finders.specs.private.recursion.SolverState.{IsAtEnd, IsSolverState, how_many_gone, AreFewer, number_left}
+pub use Rattle.pg_finders.specs.private.recursion.SolverState.{IsAtEnd, IsSolverState, how_many_gone, AreFewer, HasStepped, number_left}
 pub use Rattle.pg_finders.specs.private.recursion.Settled.{SettledLists, settled_of}
 pub use Rattle.pg_finders.specs.private.recursion.OpenLevels.{AreApart, AreOpenLevels, Linked, count_at, gone, level_at, part, prefix}
 pub use Rattle.pg_finders.specs.private.recursion.Levels.{Level, AreLevels}
-pub use Rattle.pg_finders.specs.Steps.{steps, steps_after, steps_left, work}
+pub use Rattle.pg_finders.specs.Steps.{priority_count, steps, steps_after, steps_left, work}
 pub use Rattle.pg_finders.specs.private.small.Partial.{AreDifferentRows, AddsRows, ExtendsChoices, IsPartial}
 pub use Rattle.pg_finders.specs.private.small.SearchSteps.{HasNoCapacity, NoneAgreesAt, StillAgreesAt}
 pub use Rattle.pg_finders.specs.private.small.Walked.{IsFrom, IsReached, RowLeadsTo, Under, WalksBack}

@@ -1,7 +1,7 @@
 -- A subgame whose opponent takes a part: what the tops that are left attract, and what is still won of the rest.
-use Rattle.pg_finders.proofs.Common.{◌≡◌, ℕ, false, inl, inr, sym, ◌∙◌, subst, fun_ext, and-true, Some, cases_Bool, Player, opponent, Graph, HasEdge}
+use Rattle.pg_finders.proofs.Common.{◌≡◌, ℕ, false, inl, inr, sym, subst, fun_ext, and-true, Some, cases_Bool, Player, opponent, Graph, HasEdge}
 use Rattle.pg_finders.proofs.Common.{owner_of, VertexSet, In, Within, no_vertices, without, IsSubgame, Choices, KeptEdge, ClosedWalk-weaker, Winners}
-use Rattle.pg_finders.proofs.Common.{WinsOn, IsSolvedTo, IsAttracted, IsBegun}
+use Rattle.pg_finders.proofs.Common.{WinsOn, IsSolvedTo, IsAttracted, IsBegun, false_from_ne_true}
 use Rattle.pg_finders.proofs.Sets.{no_both, only, minus, back}
 use Rattle.pg_finders.proofs.SolvedSubgames.{left_is_subgame, back_equal, IsAttracted-subst, solved_but}
 
@@ -67,16 +67,17 @@ module _ {g : Graph} {I T L : VertexSet} {p : Player} {won : Winners} {s : Choic
 
   -- U is begun
   pub begun_again : {won' : Winners} → ((v : ℕ) → In (without T B) v → owner_of g v ≡ p → (w : ℕ) × (t' v ≡ Some w) × HasEdge g v w × In U w)
-      → ((v : ℕ) → In C v → won' v ≡ p) → (v : ℕ) × In C v → IsBegun g U (without T B) L' p won' t'
+      → ((v : ℕ) → In C v → won' v ≡ p) → (t : ℕ) × In (without T B) t → IsBegun g U (without T B) L' p won' t'
   begun_again chosen his some = record {
     subgame = subgame_again;
     within = λ v i. (only (U v) (C v) i).0;
     rank = rank';
     above = λ x v i u. begun.above x v (only (T x) (B x) i).0 (only (I v) (B v) u).0;
+    below = λ x v i u n. (let j = only (I v) (B v) u in begun.below x v (only (T x) (B x) i).0 j.0 (false_from_ne_true (T v) (λ y. no_both (minus y j.1) n)));
     attracted = IsAttracted-subst (λ v. sym (back_equal (U v) (C v) (attracted_again.inside v))) attracted_again;
     chosen = chosen;
     his = λ v i. his v (back (U v) (C v) i);
-    some = (some.0, back_equal (U some.0) (C some.0) (attracted_again.inside some.0) ∙ some.1);
+    some = some;
   }
 
 -- What the player won of L he still wins in R: those of X, whose choices stay there, and the opponent's edges that stay in R.

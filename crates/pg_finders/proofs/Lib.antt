@@ -6,4 +6,5 @@ pub mod DeadEnds
 pub mod Rows
 pub mod GoodClaims
 pub mod SolvedSubgames
+pub mod Steps
 pub mod KeptSubgames

@@ -310,6 +310,7 @@ module _ {g : Graph} {U T L : VertexSet} {p : Player} {won : Winners} {s : Choic
     within = begun.within;
     rank = begun.rank;
     above = begun.above;
+    below = begun.below;
     some = begun.some;
     attracted = IsAttracted-same (λ v i. (same v (only (U v) (L v) i).1).1) begun.attracted;
     chosen = λ v t o. (let c = begun.chosen v t o in

@@ -1,27 +1,41 @@
 -- A bound on the steps that a run of the recursion still takes.
-use Rattle.std.specs.Prelude.{ℕ, zero, suc, ◌+◌, ◌-◌, List, [], ◌∷◌, length}
+use Rattle.std.specs.Prelude.{ℕ, zero, suc, ◌+◌, ◌-◌, List, [], ◌∷◌, length, Bool, nat_eq, if◌then◌else◌}
+use Rattle.std.specs.Set.{distinct_count}
+use Rattle.pg_game.specs.Graph.{Graph, priority_of}
+use Rattle.pg_game.specs.VertexSet.{VertexSet, members, how_many}
 use Rattle.pg_finders.specs.declared.recursion.Frame.{Frame}
 use Rattle.pg_finders.specs.declared.recursion.Solver.{Solver}
 
--- the greatest number of steps for a subgame of this many vertices
-abbrev pub steps : ℕ → ℕ
-steps zero = 1
-steps (suc n) = 2 + (steps n + steps n)
+-- the priorities of the set's vertices below a number
+abbrev pub priorities_below : Graph → VertexSet → ℕ → List ℕ
+priorities_below g U zero = []
+priorities_below g U (suc v) = if U v then priority_of g v ∷ priorities_below g U v else priorities_below g U v
+
+-- the number of different priorities of the set's vertices
+abbrev pub priority_count : Graph → VertexSet → ℕ
+priority_count g U = distinct_count nat_eq (priorities_below g U (length g))
+
+-- the greatest number of steps for a subgame of so many different priorities, and of n vertices
+abbrev pub steps : ℕ → ℕ → ℕ
+steps zero n = 1
+steps (suc d) zero = 1
+steps (suc d) (suc n) = 2 + (steps d n + steps (suc d) n)
 
 -- one step to leave a level, and then those of its rest, which has fewer vertices
-abbrev pub steps_after : ℕ → ℕ
-steps_after zero = 1
-steps_after (suc n) = 1 + steps n
+abbrev pub steps_after : ℕ → ℕ → ℕ
+steps_after d zero = 1
+steps_after d (suc n) = 1 + steps d n
 
--- the greatest number of steps that the waiting levels take, for a whole of n vertices
-abbrev pub steps_left : ℕ → List Frame → ℕ
-steps_left n [] = 0
-steps_left n (f ∷ fs) = steps_after (n - (f.even + f.odd + f.set_aside)) + steps_left n fs
+-- the greatest number of steps that the waiting levels take, for a whole of d priorities and n vertices; each level has one priority less
+abbrev pub steps_left : ℕ → ℕ → List Frame → ℕ
+steps_left d n [] = 0
+steps_left d n (f ∷ fs) = steps_after d (n - (f.even + f.odd + f.set_aside)) + steps_left (d - 1) n fs
 
 -- the number of vertices that are settled or set aside
 abbrev pub gone_from : Solver → ℕ
 gone_from x = length x.parts.settled.even.items + length x.parts.settled.odd.items + length x.set_aside.items
 
--- the greatest number of steps that remain, for a whole of n vertices
-abbrev pub work : ℕ → Solver → ℕ
-work n x = steps (n - gone_from x) + steps_left n x.frames.items
+-- the greatest number of steps that remain, for the whole of a mask
+abbrev pub work : Graph → List Bool → Solver → ℕ
+work g mask x = steps (priority_count g (members mask) - length x.frames.items) (how_many mask - gone_from x)
+    + steps_left (priority_count g (members mask)) (how_many mask) x.frames.items

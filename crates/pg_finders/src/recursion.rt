@@ -1,8 +1,8 @@
 //! Zielonka's recursion (1998), which solves a whole subgame by two claims, one for each player, as a loop: no function
 //! calls itself. Waiting subgames share three lists and keep places in them: the vertices set aside, and those settled for
 //! each player. Where the opponent has won something of the rest of a subgame, what its player had won there stays won unless
-//! something has changed on which it rests (Lapauw, Bruynooghe and Denecker 2020; `parts` does that). A step takes time in what
-//! it attracts and makes active again. A caller may bound the number of subgames that are begun.
+//! something has changed on which it rests (Lapauw, Bruynooghe and Denecker 2020). The crate's page has the notions, the five parts of
+//! going back with a picture, and why they are right. A caller may bound the number of subgames that are begun.
 
 ghost use Rattle.std.specs.Prelude.{◌≡◌, length, IfOk, ◌≢◌, ◌≤◌, ◌+◌, ◌<◌, ◌^◌, take, ℕ, All, OnOk, true, false};
 ghost use Rattle.std.specs.Prelude.{None, Some, IsNone, IsSome, IfSome};
@@ -17,12 +17,12 @@ ghost use Rattle.pg_finders.specs.private.recursion.Listed.{listed};
 ghost use Rattle.pg_finders.specs.private.recursion.TakenVertices.{active_of};
 ghost use Rattle.pg_game.specs.Player.{opponent};
 ghost use Rattle.pg_finders.specs.private.recursion.Settled.{settled_of};
-ghost use Rattle.pg_finders.specs.private.recursion.OpenLevels.{count_at};
-ghost use Rattle.pg_finders.specs.private.recursion.SolverState.{IsSolverState, IsAtEnd, how_many_gone, AreFewer, HasStopped, after_step};
+ghost use Rattle.pg_finders.specs.private.recursion.OpenLevels.{count_at, tail_at};
+ghost use Rattle.pg_finders.specs.private.recursion.SolverState.{IsSolverState, IsAtEnd, how_many_gone, AreFewer, HasStepped, HasStopped, after_step};
 ghost use Rattle.pg_finders.specs.private.recursion.Parts.{AreParts};
 ghost use Rattle.pg_finders.specs.private.recursion.Shrunk.{aside_of, greatest_of, Loses, Shrinks, WaitsAgain, Waits, WinsBack, KeepsLists};
 ghost use Rattle.pg_finders.specs.Recursion.{IfSolved, IfRunning};
-ghost use Rattle.pg_finders.specs.Steps.{steps as most_steps, work};
+ghost use Rattle.pg_finders.specs.Steps.{priority_count, steps as most_steps, work};
 ghost use Rattle.std.specs.Arc.{arc_value};
 
 mod order;
@@ -33,7 +33,7 @@ mod subgame;
 use crate::inside::{Inside, View};
 use crate::recursion::order::Order;
 use crate::recursion::parts::{Parts, list_active};
-use crate::recursion::settled::Settled;
+use crate::recursion::settled::{Settled, Tail};
 use crate::recursion::subgame::{Plan, Subgame};
 use pg_dominion::{Claim, own_choice};
 use pg_game::{Game, Mask, Memory, Player};
@@ -65,7 +65,8 @@ pub fn zielonka_within(
 ) -> Result<Option<Solved>, Memory>
     ensures claims { IfOk result (λ found. IfSome found (λ solved. AreClaims inside.now.graph (members inside.now.mask) solved.even solved.odd)) }
     ensures unlimited { IfOk result (λ found. limit ≡ None → IsSome found) }
-    ensures enough { IfOk result (λ found. (k : ℕ) → limit ≡ Some k → most_steps (how_many inside.now.mask) ≤ k → IsSome found) }
+    ensures enough { IfOk result (λ found. (k : ℕ) → limit ≡ Some k
+        → most_steps (priority_count inside.now.graph (members inside.now.mask)) (how_many inside.now.mask) ≤ k → IsSome found) }
     ensures nothing { IfOk result (λ found. ((v : ℕ) → members inside.now.mask v ≡ false) → IsSome found) }
     ensures no_steps { IfOk result (λ found. limit ≡ Some 0 → (v : ℕ) → In (members inside.now.mask) v → IsNone found) }
 {
@@ -92,18 +93,19 @@ pub struct Recursion {
 impl Model for Recursion {
     ghost use Rattle.std.specs.Prelude.{length};
     ghost use Rattle.std.specs.Arc.{arc_value};
-    ghost use Rattle.pg_game.specs.VertexSet.{members, how_many};
+    ghost use Rattle.pg_game.specs.VertexSet.{members};
     ghost use Rattle.pg_game.specs.Subgame.{IsSubgame};
     ghost use Rattle.pg_finders.specs.Run.{Run};
     ghost use Rattle.pg_finders.specs.Steps.{work};
-    ghost use Rattle.pg_finders.specs.private.recursion.SolverState.{IsSolverState};
+    ghost use Rattle.pg_finders.specs.private.recursion.SolverState.{IsSolverState, HasMore};
 
     ghost Value = { Run };
 
-    ghost view = { λ r. record { graph = arc_value r.game; mask = r.mask; remaining = work (how_many r.mask) r.solver } };
+    ghost view = { λ r. record { graph = arc_value r.game; mask = r.mask; remaining = work (arc_value r.game) r.mask r.solver } };
 
     ghost invariant = { λ r. IsSubgame (arc_value r.game) (members r.mask)
-        × IsSolverState (arc_value r.game) r.mask r.solver };
+        × IsSolverState (arc_value r.game) r.mask r.solver
+        × HasMore r.mask r.solver };
 }
 
 /// What a run of the recursion has come to. It has no `Debug`, since neither a run nor a claim has one.
@@ -122,7 +124,7 @@ impl Recursion {
         requires subgame { IsSubgame (arc_value game.now) (members mask) }
         ensures graph { IfOk result (λ r. r.graph ≡ arc_value game.now) }
         ensures mask { IfOk result (λ r. r.mask ≡ mask) }
-        ensures remaining { IfOk result (λ r. r.remaining ≤ most_steps (length mask)) }
+        ensures remaining { IfOk result (λ r. r.remaining ≤ most_steps (priority_count (arc_value game.now) (members mask)) (how_many mask)) }
     {
         let view = View { game, mask: &mask };
         let solver = Solver::new(alloc, &view)?;
@@ -140,6 +142,7 @@ impl Recursion {
         ensures running { IfOk result (λ a. IfRunning a (λ r. (r.graph ≡ self.graph) × (r.mask ≡ self.mask) × (steps.new ≡ 0))) }
         ensures nearer { IfOk result (λ a. IfRunning a (λ r. r.remaining + steps.old ≤ self.remaining)) }
         ensures steps { steps.new ≤ steps.old }
+        ensures charged { IfOk result (λ a. IfSolved a (λ solved. (v : ℕ) → In (members self.mask) v → steps.new < steps.old)) }
     {
         let Recursion { game, mask, solver } = self;
         let mut solver = solver;
@@ -176,7 +179,8 @@ impl Solver {
     fn new(alloc: Global, view: &View) -> Result<Solver, Memory>
         ensures running { IfOk result (λ solver. IsSolverState view.now.game.now view.now.mask.now solver) }
         ensures active { IfOk result (λ solver. solver.parts.subgame.active ≡ view.now.mask.now) }
-        ensures work { IfOk result (λ solver. work (how_many view.now.mask.now) solver ≤ most_steps (how_many view.now.mask.now)) }
+        ensures work { IfOk result (λ solver. work view.now.game.now view.now.mask.now solver
+            ≤ most_steps (priority_count view.now.game.now (members view.now.mask.now)) (how_many view.now.mask.now)) }
     {
         // Capacities are for all vertices that a list may get, as far as this is known. If a list outgrows a block below a KiB, the
         // allocator of glibc keeps that block, and does not return the memory below it to the system.
@@ -218,7 +222,7 @@ impl Solver {
         ensures claims { IfOk result (λ found. IfSome found (λ solved. AreClaims view.now.game.now (members view.now.mask.now) solved.even solved.odd)) }
         ensures stopped { IfOk result (λ found. IsNone found → HasStopped view.now.game.now view.now.mask.now left.old left.new self.old self.new) }
         ensures fewer { AreFewer left.old left.new }
-        ensures no_steps { IfOk result (λ found. left.old ≡ Some 0 → (v : ℕ) → In (active_of self.old.parts.subgame) v → IsNone found) }
+        ensures charged { IfOk result (λ found. IsSome found → (v : ℕ) → In (active_of self.old.parts.subgame) v → HasStepped left.old left.new) }
     {
         if !self.run(view, left)? {
             return Ok(None);
@@ -241,7 +245,7 @@ impl Solver {
         ensures size { IfOk result (λ done. done ≡ true → HasSize (length view.now.game.now) self.new.parts.subgame.plan) }
         ensures stopped { IfOk result (λ done. done ≡ false → HasStopped view.now.game.now view.now.mask.now left.old left.new self.old self.new) }
         ensures fewer { AreFewer left.old left.new }
-        ensures no_steps { IfOk result (λ done. left.old ≡ Some 0 → (v : ℕ) → In (active_of self.old.parts.subgame) v → done ≡ false) }
+        ensures charged { IfOk result (λ done. done ≡ true → (v : ℕ) → In (active_of self.old.parts.subgame) v → HasStepped left.old left.new) }
     {
         'steps: loop {
             if self.has_more(view) {
@@ -264,15 +268,17 @@ impl Solver {
         requires running { IsSolverState view.now.game.now view.now.mask.now self.old }
         requires some { (v : ℕ) × In (active_of self.old.parts.subgame) v }
         ensures running { OnOk result (IsSolverState view.now.game.now view.now.mask.now self.new) }
-        ensures fewer { OnOk result (work (how_many view.now.mask.now) self.new < work (how_many view.now.mask.now) self.old) }
+        ensures fewer { OnOk result (work view.now.game.now view.now.mask.now self.new < work view.now.game.now view.now.mask.now self.old) }
     {
         let active = &self.parts.subgame.active;
         let top = self.order.top(view.game, active).unwrap();
         self.order
-            .list_greatest(view.game, active, top, &mut self.list)?;
-        let tops = self.list.len();
+            .list_greatest(view.game, active, top, &mut self.opened)?;
         let player = Player::of_parity(top);
-        self.parts.subgame.begin(view.game, player, &mut self.list)?;
+        let none = self.parts.settled.end(player);
+        let tops = self
+            .parts
+            .begin(view.game, none, &self.opened, &mut self.list)?;
         let even = self.count(Player::Even);
         let odd = self.count(Player::Odd);
         self.wait(player, tops, even, odd)
@@ -317,7 +323,7 @@ impl Solver {
     fn leave(&mut self, view: &View, frame: Frame) -> Result<(), Memory>
         requires { IsAtEnd view.now.game.now view.now.mask.now self.old frame }
         ensures running { OnOk result (IsSolverState view.now.game.now view.now.mask.now self.new) }
-        ensures fewer { OnOk result (work (how_many view.now.mask.now) self.new < work (how_many view.now.mask.now) self.old) }
+        ensures fewer { OnOk result (work view.now.game.now view.now.mask.now self.new < work view.now.game.now view.now.mask.now self.old) }
     {
         let other = frame.player.other();
         if self.count(other) == frame.count(other) {
@@ -332,7 +338,7 @@ impl Solver {
         requires end { IsAtEnd view.now.game.now view.now.mask.now self.old frame }
         requires all { length (settled_of self.old.parts.settled (opponent frame.player)) ≡ count_at frame (opponent frame.player) }
         ensures running { OnOk result (IsSolverState view.now.game.now view.now.mask.now self.new) }
-        ensures fewer { OnOk result (work (how_many view.now.mask.now) self.new < work (how_many view.now.mask.now) self.old) }
+        ensures fewer { OnOk result (work view.now.game.now view.now.mask.now self.new < work view.now.game.now view.now.mask.now self.old) }
     {
         let aside = frame.aside(&self.set_aside);
         self.parts.settled.add_all(frame.player, aside)?;
@@ -341,13 +347,14 @@ impl Solver {
         Ok(())
     }
 
-    /// Removes from the subgame that waits last what the opponent won and attracts. It waits again, unless its greatest vertices are
-    /// all among them. What its player has won stays won if nothing on which it rests has changed; the others are active.
+    /// Goes back, in five parts: removes from the subgame that waits last what the opponent won and attracts. It waits again, unless its
+    /// greatest vertices are all among them. What its player has won stays won if nothing on which it rests has changed; the others are
+    /// active.
     fn resume(&mut self, view: &View, frame: Frame) -> Result<(), Memory>
         requires end { IsAtEnd view.now.game.now view.now.mask.now self.old frame }
         requires some { length (settled_of self.old.parts.settled (opponent frame.player)) ≢ count_at frame (opponent frame.player) }
         ensures running { OnOk result (IsSolverState view.now.game.now view.now.mask.now self.new) }
-        ensures fewer { OnOk result (work (how_many view.now.mask.now) self.new < work (how_many view.now.mask.now) self.old) }
+        ensures fewer { OnOk result (work view.now.game.now view.now.mask.now self.new < work view.now.game.now view.now.mask.now self.old) }
     {
         let tops = self.shrink(view, frame)?;
         self.wait_again(frame, tops)?;
@@ -356,41 +363,43 @@ impl Solver {
             .refill(view.game, &self.parts.subgame.active, &self.opened)
     }
 
-    /// Settles for the opponent what he attracts, lists what the greatest vertices that are left attract, and makes active what is
-    /// neither listed nor still won. The number of these greatest vertices.
+    /// Parts 1 to 3 of going back: settles for the opponent what he attracts, lists what the greatest vertices that are left attract, and
+    /// makes active what is neither listed nor still won. The number of these greatest vertices.
     fn shrink(&mut self, view: &View, frame: Frame) -> Result<usize, Memory>
         requires { IsAtEnd view.now.game.now view.now.mask.now self.old frame }
         ensures shrinks { IfOk result (λ k. Shrinks view.now.game.now (members view.now.mask.now) frame self.old self.new k) }
     {
-        let other = frame.player.other();
-        let won = self.count(other);
+        let won = frame.tail(frame.player);
+        let lost = self.parts.settled.end(frame.player.other());
         self.lose(view, frame)?;
         let greatest = frame.greatest(&self.set_aside);
-        let tops = self.parts.begin_again(view.game, greatest, &mut self.list)?;
+        let tops = self.parts.begin(view.game, won, greatest, &mut self.list)?;
         self.opened.clear();
         let aside = frame.aside(&self.set_aside);
         list_active(&self.parts.subgame.active, aside, &mut self.opened)?;
-        self.parts.open(view.game, other, won, &mut self.opened)?;
+        self.parts.open(view.game, won, lost, &mut self.opened)?;
         self.set_aside.truncate(frame.set_aside);
         self.frames.pop();
         Ok(tops)
     }
 
-    /// Makes active what is set aside last, and settles for the opponent what he attracts. What his player has won is free.
+    /// Part 1 of going back: makes active what is set aside last, and settles for the opponent what he attracts to what he won (B). What
+    /// the player has won is free.
     fn lose(&mut self, view: &View, frame: Frame) -> Result<(), Memory>
         requires { IsAtEnd view.now.game.now view.now.mask.now self.old frame }
         ensures loses { OnOk result (Loses view.now.game.now (members view.now.mask.now) frame self.old self.new) }
     {
-        let other = frame.player.other();
         let aside = frame.aside(&self.set_aside);
-        self.parts
-            .free_from(frame.player, frame.count(frame.player));
         insert_all(&mut self.parts.subgame.active, aside);
-        self.parts.attract(view.game, other, frame.count(other), aside, &mut self.list)?;
+        let won = frame.tail(frame.player);
+        let lost = frame.tail(frame.player.other());
+        self.parts
+            .attract(view.game, won, lost, aside, &mut self.list)?;
         Ok(())
     }
 
-    /// Sets aside the listed vertices, the first of them the greatest, and their subgame waits; if there is none, nothing waits.
+    /// Part 5 of going back: sets aside the listed vertices, the first of them the greatest, and their subgame waits; if there is none,
+    /// nothing waits.
     fn wait_again(&mut self, frame: Frame, tops: usize) -> Result<(), Memory>
         requires { tops ≤ length self.old.list.items }
         ensures waits { OnOk result (WaitsAgain frame tops self.old self.new) }
@@ -405,23 +414,21 @@ impl Solver {
         self.wait(frame.player, tops, even, odd)
     }
 
-    /// Settles for the player what he attracts to what he has still won since the subgame was begun.
+    /// Part 4 of going back: settles for the player what he attracts to what he has still won since the subgame was begun (X).
     fn win_back(&mut self, view: &View, frame: Frame) -> Result<(), Memory>
         requires parts { AreParts (length view.now.game.now) self.old.parts }
         requires below { All (λ v. v < length view.now.game.now) self.old.opened.items }
         requires listed { Within (active_of self.old.parts.subgame) (listed self.old.opened.items) }
         requires counts { count_at frame frame.player ≤ length (settled_of self.old.parts.settled frame.player) }
-        ensures wins { OnOk result (WinsBack view.now.game.now frame.player (count_at frame frame.player) self.old.parts self.new.parts) }
+        ensures wins { OnOk result (WinsBack view.now.game.now (tail_at frame frame.player) self.old.parts self.new.parts) }
         ensures parts { OnOk result (AreParts (length view.now.game.now) self.new.parts) }
         ensures same { OnOk result (KeepsLists self.old self.new) }
     {
-        let player = frame.player;
-        let own = frame.count(player);
-        let kept = self.count(player);
-        if kept > own {
-            self.parts.free_from(player, kept);
+        let won = frame.tail(frame.player);
+        let none = self.parts.settled.end(frame.player);
+        if none.from > won.from {
             self.parts
-                .attract(view.game, player, own, &self.opened, &mut self.list)?;
+                .attract(view.game, none, won, &self.opened, &mut self.list)?;
         }
         Ok(())
     }
@@ -449,6 +456,16 @@ impl Frame {
         match player {
             Player::Even => self.even,
             Player::Odd => self.odd,
+        }
+    }
+
+    /// What was settled for the player since.
+    fn tail(self, player: Player) -> Tail
+        ensures { result ≡ tail_at self player }
+    {
+        Tail {
+            player,
+            from: self.count(player),
         }
     }
 

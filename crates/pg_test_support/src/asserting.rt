@@ -22,14 +22,3 @@ macro_rules! check {
         crate::tests::asserting::holds(&$rt, $is_so, $at)
     };
 }
-
-/// What a call gives, made once more where it was refused.
-#[macro_export]
-macro_rules! twice {
-    ($call:expr) => {
-        match $call {
-            Ok(value) => Ok(value),
-            Err(_) => $call,
-        }
-    };
-}

@@ -1,5 +1,5 @@
 -- What is known of a game before it is solved, as regions: what a run keeps of it, and why it refuses a set that is none.
-use Rattle.std.specs.Prelude.{ℕ, ◌≡◌, ◌+◌, ◌↔◌, false, List, [], length, nat_eq, Some, option_map, slice_get}
+use Rattle.std.specs.Prelude.{ℕ, ◌≡◌, ◌+◌, ◌-◌, ◌↔◌, false, Option, List, [], length, nat_eq, Some, option_map, slice_get}
 use Rattle.std.specs.List.{Contains, IsDistinct}
 use Rattle.pg_game.specs.declared.player.Player.{Player}
 use Rattle.pg_game.specs.declared.player.Player.TheVariants.{Even, Odd}
@@ -17,6 +17,8 @@ use Rattle.pg_board.specs.declared.journal.Refusal.TheVariants as refusal
 use Rattle.pg_board.specs.State.{State, settled}
 use Rattle.pg_board.specs.Journal.{Journal, state_of, IsLawful}
 use Rattle.pg_board.specs.Refusal.{Refuses}
+use Rattle.pg_board.specs.Finish.{MayGiveUp}
+use Rattle.pg_finders.specs.Steps.{priority_count}
 use Rattle.pg_workers.specs.declared.known.SolveFault.{SolveFault}
 use Rattle.pg_workers.specs.declared.known.SolveFault.TheVariants as fault
 use Rattle.pg_workers.specs.declared.known.KnownFault.{KnownFault}
@@ -52,6 +54,10 @@ pub record IsKnownSize (g : Graph) (known : KnownRows) (n : ℕ) : Type 0 where
   pub even : HasCount (IsAttractedToKnown g known Even) of_even
   pub odd : HasCount (IsAttractedToKnown g known Odd) of_odd
   pub sum : n ≡ of_even + of_odd
+
+-- a call may give up under the limit of steps on the vertices that no player attracts to his known set
+abbrev pub MayGiveUpFrom : Option ℕ → Graph → KnownRows → Type 0
+MayGiveUpFrom limit g known = (n : ℕ) × IsKnownSize g known n × MayGiveUp limit (priority_count g (all_vertices g)) (length g - n)
 
 -- nothing is settled for the player
 abbrev pub HasNone : Journal → Player → Type 0

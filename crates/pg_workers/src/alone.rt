@@ -1,12 +1,12 @@
 //! Solving in the calling thread: what is known, and then a board that settles all the rest itself (`Board::finish`). A static
 //! library solves so, since it may start no thread.
 
-ghost use Rattle.std.specs.Prelude.{◌≡◌, length, slice_get, IfOk, IfErr, IfSome, IsNone, Some, Option, ℕ};
+ghost use Rattle.std.specs.Prelude.{◌≡◌, slice_get, IfOk, IfErr, IfSome, IsNone, Some, Option, ℕ};
 ghost use Rattle.pg_game.specs.declared.player.Player.{Player};
 ghost use Rattle.pg_board.specs.Journal.{state_of};
-ghost use Rattle.pg_board.specs.Finish.{MayGiveUp, number_unsettled};
+ghost use Rattle.pg_board.specs.Finish.{MayGiveUp, number_unsettled, priorities_unsettled};
 ghost use Rattle.pg_text.specs.Solution.{IsExactSolution};
-ghost use Rattle.pg_workers.specs.KnownRegions.{IsSolveFault, IsKnownRegion, KeepsKnown};
+ghost use Rattle.pg_workers.specs.KnownRegions.{IsSolveFault, IsKnownRegion, KeepsKnown, MayGiveUpFrom};
 
 use crate::known::{KnownOf, SolveFault, board_with};
 use pg_board::Board;
@@ -25,7 +25,7 @@ pub fn solve_alone(
     ensures exact { IfOk result (λ found. IfSome found (λ s. IsExactSolution of.now.game.now s.rows)) }
     ensures regions { IfOk result (λ found. (p : Player) → IsKnownRegion of.now.game.now of.now.known.now.rows p) }
     ensures kept { IfOk result (λ found. IfSome found (λ s. KeepsKnown of.now.game.now of.now.known.now.rows (λ v. slice_get s.rows v))) }
-    ensures limited { IfOk result (λ found. IsNone found → MayGiveUp limit (length of.now.game.now)) }
+    ensures limited { IfOk result (λ found. IsNone found → MayGiveUpFrom limit of.now.game.now of.now.known.now.rows) }
     ensures fault { IfErr result (λ e. IsSolveFault of.now.game.now of.now.known.now.rows e) }
 {
     let board = board_with(alloc, of)?;
@@ -42,7 +42,7 @@ pub fn solve_board(
     ensures exact { IfOk result (λ found. IfSome found (λ s. IsExactSolution board.entry.graph s.rows)) }
     ensures kept { IfOk result (λ found. IfSome found (λ s. (v : ℕ) (r : Player × Option ℕ)
         → state_of board.entry.journal v ≡ Some r → slice_get s.rows v ≡ Some r)) }
-    ensures limited { IfOk result (λ found. IsNone found → MayGiveUp limit (number_unsettled board.entry)) }
+    ensures limited { IfOk result (λ found. IsNone found → MayGiveUp limit (priorities_unsettled board.entry) (number_unsettled board.entry)) }
 {
     if !board.finish(alloc, limit)? {
         return Ok(None);

@@ -1,12 +1,12 @@
 //! A worker draws a job, searches for dominions on a copy of the board's unsettled part, checks each claim without the lock and
 //! settles the checked claims. It counts the answers in the job's row, and draws again until no job is left.
 
-ghost use Rattle.std.specs.Prelude.{◌≡◌, ◌+◌, ◌^◌, ◌≤◌, ◌<◌, ℕ, All, true, IsFalse, Some, length, map};
+ghost use Rattle.std.specs.Prelude.{◌≡◌, ◌+◌, ◌^◌, ◌≤◌, ◌<◌, ℕ, All, true, false, IfOk, IsFalse, Some, length, map};
 ghost use Rattle.std.specs.Vec.{vec_capacity};
 ghost use Rattle.pg_board.specs.Office.{IsRaised};
 ghost use Rattle.pg_board.specs.Work.{total_of};
 ghost use Rattle.pg_workers.specs.Report.{IsDrawnRow, settled_in};
-ghost use Rattle.pg_workers.specs.private.Report.{AreCounted, IsWorkersRow, answered};
+ghost use Rattle.pg_workers.specs.private.Report.{AreCounted, IsClaimAnswer, IsWorkersRow, answered};
 
 use crate::jobs::{Jobs, Ticket};
 use crate::known::KnownOf;
@@ -165,6 +165,7 @@ impl<'x, 'g, L: Ledger, J: RunJobs, G: Gate, F: Finder, R: Wait> Task<'x, 'g, L,
     ) -> ReportRow
         ensures row { IsWorkersRow number worker result }
         ensures settled { share.new ≡ share.old + result.settled }
+        ensures answered { IfOk found.entry (λ f. result.memory ≡ false → answered result ≡ length f.0.claims.items) }
     {
         let mut row = ReportRow::blank(number);
         row.worker = Some(worker);
@@ -206,7 +207,8 @@ impl<'x, 'g, L: Ledger, J: RunJobs, G: Gate, F: Finder, R: Wait> Task<'x, 'g, L,
         game: &Game,
         claim: &Claim,
     ) -> Result<u32, Refusal>
-        ensures { IsRaised share.old share.new result }
+        ensures answer { IsClaimAnswer share.old worker game.now claim.now result }
+        ensures raised { IsRaised share.old share.new result }
     {
         let Setup { rt, alloc, .. } = self.setup;
         let checked = check_claim(*alloc, game, claim)?;

@@ -1,10 +1,12 @@
 -- The answers of the calls on arrays, and their refusals: the first reason that applies, for the least vertex.
 use Rattle.std.specs.Prelude.{ℕ, ◌≡◌, ◌≢◌, ◌+◌, length, slice_index, Option, Some, Result, MatchResult}
 use Rattle.pg_game.specs.Graph.{Graph}
+use Rattle.pg_game.specs.VertexSet.{all_vertices}
 use Rattle.pg_game.specs.Specification.{first_fault}
 use Rattle.pg_game.specs.Least.{NoneHas, IsLeast}
 use Rattle.pg_text.specs.Solution.{SolutionRows, IsSolution, IsExactSolution}
 use Rattle.pg_dominion.specs.Verdict.{FailsBy}
+use Rattle.pg_finders.specs.Steps.{priority_count}
 use Rattle.pg_board.specs.Finish.{MayGiveUp}
 use Rattle.pgboard_c.specs.declared.fault.ArrayName.{ArrayName}
 use Rattle.pgboard_c.specs.declared.fault.ArrayName.TheVariants as array_name
@@ -70,7 +72,7 @@ AreUnfitResults g r other = ⊥
 abbrev pub IsSolveArraysFault : Option ℕ → GameLists → ResultLists → Fault → Type 0
 IsSolveArraysFault limit a r (fault.Size structure.Results) = (g : Graph) × IsGameOfArrays a g × AreUnfitResults g r (fault.Size structure.Results)
 IsSolveArraysFault limit a r (fault.Results name) = (g : Graph) × IsGameOfArrays a g × AreUnfitResults g r (fault.Results name)
-IsSolveArraysFault limit a r fault.GaveUp = (g : Graph) × IsGameOfArrays a g × HaveSize g r × MayGiveUp limit (length g)
+IsSolveArraysFault limit a r fault.GaveUp = (g : Graph) × IsGameOfArrays a g × HaveSize g r × MayGiveUp limit (priority_count g (all_vertices g)) (length g)
 IsSolveArraysFault limit a r other = IsArraysFault a other
 
 -- the game is solved, or not, and the results are unchanged

@@ -6,12 +6,14 @@ use Rattle.pg_game.specs.declared.player.Player.{Player}
 use Rattle.pg_game.specs.Player.{digit_of}
 use Rattle.pg_game.specs.Graph.{Graph}
 use Rattle.pg_text.specs.Solution.{SolutionRows, IsExactSolution}
+use Rattle.pg_game.specs.VertexSet.{In}
 use Rattle.pg_board.specs.BoardRecord.{BoardRecord, SessionRecord}
+use Rattle.pg_board.specs.State.{unsettled}
 use Rattle.pg_board.specs.Board.{IsLawfulBoard}
-use Rattle.pg_board.specs.Slices.{most_slices, IsCharged}
+use Rattle.pg_board.specs.Slices.{most_slices, most_steps, IsCharged, IsLastCharged}
 use Rattle.pg_board.specs.Journal.{state_of, number_settled}
 use Rattle.pg_board.specs.Full.{IsFull, AreStateRows}
-use Rattle.pg_board.specs.Finish.{IsContinued, MayGiveUp, number_unsettled}
+use Rattle.pg_board.specs.Finish.{IsContinued, MayGiveUp, number_unsettled, priorities_unsettled}
 use Rattle.pgboard_c.specs.declared.arrays.Results.{Results}
 use Rattle.pgboard_c.specs.declared.held.Handle.{Handle}
 use Rattle.pgboard_c.specs.declared.fault.BoardFault.TheVariants as board_fault
@@ -32,7 +34,7 @@ slices_in (Some s) = s.slices
 
 -- its board is lawful, and no more slices remain than its vertices take
 abbrev pub IsLawfulSession : Option SessionRecord → Type 0
-IsLawfulSession s = IfSome s (λ s. IsLawfulBoard s.board × (s.slices ≤ most_slices (length s.board.graph)))
+IsLawfulSession s = IfSome s (λ s. IsLawfulBoard s.board × (s.slices ≤ most_slices s.board.graph))
 
 -- what a call did: the session that it found, the session that it left, and its result
 abbrev pub SessionOutcome : Type 1
@@ -111,7 +113,7 @@ IsFinished s t = IsFull t.graph (state_of t.journal) × IsContinued s t
 
 -- why a board is not finished: memory was refused, or it gave up under a limit of steps that may be too low, with a vertex unsettled
 abbrev pub IsFinishFault : Option ℕ → BoardRecord → Fault → Type 0
-IsFinishFault limit s fault.GaveUp = MayGiveUp limit (number_unsettled s) × (IsFull s.graph (state_of s.journal) → ⊥)
+IsFinishFault limit s fault.GaveUp = MayGiveUp limit (priorities_unsettled s) (number_unsettled s) × (IsFull s.graph (state_of s.journal) → ⊥)
 IsFinishFault limit s other = other ≡ fault.Memory
 
 abbrev pub IsFinishOutcome : Option ℕ → SessionOutcome
@@ -135,17 +137,24 @@ IsNearer old_steps new_steps old new other = Unit {0}
 
 -- where vertices are unsettled, it has left of its steps what a slice of that session leaves: all after a search, and none after one of the recursion
 abbrev pub HasCharged : ℕ → ℕ → Option SessionRecord → Fault → Type 0
-HasCharged old_steps new_steps old (fault.Board (board_fault.Unsettled n)) = IfSome old (λ s. IsCharged (length s.board.graph) s.slices old_steps new_steps)
+HasCharged old_steps new_steps old (fault.Board (board_fault.Unsettled n)) = IfSome old (λ s. IsCharged (most_steps s.board.graph) s.slices old_steps new_steps)
 HasCharged old_steps new_steps old other = Unit {0}
 
--- more is settled, also where there is a fault
+-- and where it settles the last vertex, what the last slice of that session leaves
+abbrev pub HasLastCharged : ℕ → ℕ → SessionRecord → Type 0
+HasLastCharged old_steps new_steps s =
+    (v : ℕ) → In (unsettled s.board.graph (state_of s.board.journal)) v → IsLastCharged (most_steps s.board.graph) s.slices old_steps new_steps
+
+-- more is settled, also where there is a fault; a closed board takes no step
 pub record IsAdvanceOutcome (old_steps new_steps : ℕ) (old new : Option SessionRecord) (result : Result (Unit {0}) Fault) : Type 0 where
   pub continued : IsContinuedOn old new
   pub full : OnOk result ((t : SessionRecord) × (new ≡ Some t) × IsFull t.board.graph (state_of t.board.journal))
   pub fault : IfErr result (OnBoard new IsAdvanceFault)
   pub nearer : IfErr result (IsNearer old_steps new_steps old new)
   pub charged : IfErr result (HasCharged old_steps new_steps old)
+  pub last : OnOk result (IfSome old (HasLastCharged old_steps new_steps))
   pub steps : new_steps ≤ old_steps
+  pub closed : old ≡ None → new_steps ≡ old_steps
 
 -- the board is full, and the arrays have its winners and choices, which are the game's solution
 pub record AreBoardSolution (s : BoardRecord) (r : ResultLists) : Type 0 where

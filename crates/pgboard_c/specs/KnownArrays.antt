@@ -6,8 +6,7 @@ use Rattle.pg_game.specs.Least.{NoneHas, IsLeast}
 use Rattle.pg_game.specs.Player.{of_digit}
 use Rattle.pg_text.specs.Known.{KnownRows, known_at}
 use Rattle.pg_text.specs.Solution.{SolutionRows, IsExactSolution}
-use Rattle.pg_board.specs.Finish.{MayGiveUp}
-use Rattle.pg_workers.specs.KnownRegions.{IsKnownRegion, KeepsKnown, IsRefusedSet}
+use Rattle.pg_workers.specs.KnownRegions.{IsKnownRegion, KeepsKnown, IsRefusedSet, MayGiveUpFrom}
 use Rattle.pgboard_c.specs.declared.fault.Structure.TheVariants as structure
 use Rattle.pgboard_c.specs.declared.fault.Fault.{Fault}
 use Rattle.pgboard_c.specs.declared.fault.Fault.TheVariants as fault
@@ -38,7 +37,7 @@ FitsAsKnown g k = HaveSize g k × NoneHas (IsBadKnownWinner k.winners)
 abbrev pub IsUnsolved : Option ℕ → Graph → KnownRows → Fault → Type 0
 IsUnsolved limit g known fault.Memory = Unit {0}
 IsUnsolved limit g known (fault.Known f) = IsRefusedSet g known f
-IsUnsolved limit g known fault.GaveUp = ((p : Player) → IsKnownRegion g known p) × MayGiveUp limit (length g)
+IsUnsolved limit g known fault.GaveUp = ((p : Player) → IsKnownRegion g known p) × MayGiveUpFrom limit g known
 IsUnsolved limit g known other = ⊥
 
 -- the same as AreSolved, each player's known set is a region of his, and he keeps its vertices and the choices at those that he owns

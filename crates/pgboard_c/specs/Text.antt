@@ -1,5 +1,5 @@
 -- The texts for C: a table with one line for each answer. Each has a zero at its end.
-use Rattle.std.specs.Prelude.{ℕ, List, codes, if◌then◌else◌, ◌==◌}
+use Rattle.std.specs.Prelude.{ℕ, List, codes, if◌then◌else◌, ◌==◌, ◌≡◌, ◌≤◌, ◌<◌, ◌++◌, length, drop}
 
 -- of the answers on boards and on a bound, and of every other number
 abbrev pub board_text : ℕ → List ℕ
@@ -68,3 +68,8 @@ answer_text n =
 
 abbrev pub version_text : List ℕ
 version_text = codes "0.1.0\0"
+
+-- the text's size is returned; where the text fits it is at the front of the buffer, and the bytes after it are unchanged; else all are
+abbrev pub IsCopied : List ℕ → List ℕ → List ℕ → ℕ → Type 0
+IsCopied text old new size =
+    (size ≡ length text) × (size ≤ length old → new ≡ text ++ drop size old) × (length old < size → new ≡ old)

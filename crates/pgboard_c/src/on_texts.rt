@@ -7,6 +7,7 @@ ghost use Rattle.pgboard_c.specs.Numbers.{Returns};
 ghost use Rattle.pgboard_c.specs.Texts.{text_buffer, IsWritten, IsSolvedText, IsTidyText, IsTextOutcome, IsRefusedGameText, IsVerifyOutcome};
 
 use crate::fault::{Fault, Report, reported};
+use crate::text::copy_if_it_fits;
 use pg_board::Board;
 use pg_dominion::{SolutionFault, check_forward_solution};
 use pg_game::{ForwardGame, Game};
@@ -95,11 +96,10 @@ pub fn copy_to_front(text: &[u8], into: &mut [u8], size: &mut usize) -> Result<(
         (λ e. (e ≡ Fault.Capacity (length text.now)) × (length into.old < length text.now)
         × (text_buffer into.new size.new ≡ text_buffer into.old size.old)) }
 {
-    let n = text.len();
+    let n = copy_if_it_fits(text, into);
     if into.len() < n {
         return Err(Fault::Capacity(n));
     }
-    into[..n].copy_from_slice(text);
     *size = n;
     Ok(())
 }

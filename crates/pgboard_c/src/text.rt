@@ -1,9 +1,9 @@
 //! What the library says of itself: the text of each answer, and its version. An export cannot return a pointer, so a text goes
-//! out through a struct of the caller. The bytes are constants, and stay as long as the program.
+//! out through a struct of the caller, or is copied into a buffer. The bytes are constants, and stay as long as the program.
 
 ghost use Rattle.std.specs.Prelude.{◌≡◌};
 ghost use Rattle.pgboard_c.specs.Numbers.{version};
-ghost use Rattle.pgboard_c.specs.Text.{answer_text, reading_text, board_text, version_text};
+ghost use Rattle.pgboard_c.specs.Text.{answer_text, reading_text, board_text, version_text, IsCopied};
 
 /// A text of the library, with a zero byte at its end.
 #[repr(C)]
@@ -17,6 +17,25 @@ pub extern "C" fn pgboard_answer_text(answer: u32, text: &mut Text<'static>)
     ensures { text.new.bytes.now ≡ answer_text answer }
 {
     text.bytes = answer_text(answer);
+}
+
+/// Copies the text of an answer to the front of the buffer, if it fits, and returns its size with the zero byte.
+#[unsafe(no_mangle)]
+pub extern "C" fn pgboard_copy_answer_text(answer: u32, into: &mut [u8]) -> usize
+    ensures { IsCopied (answer_text answer) into.old into.new result }
+{
+    copy_if_it_fits(answer_text(answer), into)
+}
+
+/// Copies a text to the front of the buffer, if it fits, and returns its size.
+pub fn copy_if_it_fits(text: &[u8], into: &mut [u8]) -> usize
+    ensures { IsCopied text.now into.old into.new result }
+{
+    let size = text.len();
+    if size <= into.len() {
+        into[..size].copy_from_slice(text);
+    }
+    size
 }
 
 /// The texts of the answers on arrays, games and solutions, and of the others.
@@ -112,5 +131,20 @@ pub extern "C" fn pgboard_version() -> u32
 pub extern "C" fn pgboard_version_text(text: &mut Text<'static>)
     ensures { text.new.bytes.now ≡ version_text }
 {
-    text.bytes = b"0.1.0\0";
+    text.bytes = version_text();
+}
+
+/// Copies the version as text to the front of the buffer, if it fits, and returns its size with the zero byte.
+#[unsafe(no_mangle)]
+pub extern "C" fn pgboard_copy_version_text(into: &mut [u8]) -> usize
+    ensures { IsCopied version_text into.old into.new result }
+{
+    copy_if_it_fits(version_text(), into)
+}
+
+/// The version as text, with a zero byte at its end.
+fn version_text() -> &'static [u8]
+    ensures { result.now ≡ version_text }
+{
+    b"0.1.0\0"
 }

@@ -3,12 +3,11 @@
 
 mod asserting;
 mod calls;
-mod capacities;
 mod command_line;
 mod concurrency;
 mod devices;
 mod failing_devices;
-mod failure_counts;
 mod finders;
+mod full_writer;
 mod known_devices;
 mod wrong_finders;

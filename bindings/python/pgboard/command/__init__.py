@@ -14,11 +14,9 @@ import functools
 import gc
 import os
 import re
-import shutil
 import signal
 import subprocess
 import sys
-import tempfile
 import time
 import traceback
 
@@ -83,12 +81,6 @@ def undone(begin, end):
             last()
             if undo == []:
                 on_signals()
-
-
-def folder():
-    return undone(
-        lambda: tempfile.mkdtemp(prefix="pgboard-"), lambda path: shutil.rmtree(path, ignore_errors=True)
-    )
 
 
 def end(process):
@@ -247,6 +239,29 @@ def progress(text):
         print(f"\r\x1b[K{text}", end="", file=sys.stderr, flush=True)
 
 
+@contextlib.contextmanager
+def working(what):
+    """Shows on a terminal each second what this command does, and for how long."""
+    if undo is None or not sys.stderr.isatty():
+        yield
+        return
+    begun_at, shown_at = time.monotonic(), []
+
+    def show(*_):
+        shown_at.append(int(time.monotonic() - begun_at))
+        # (the signal may come while something is printed)
+        os.write(2, f"\r\x1b[Kpgboard: {printable(what)}, {shown_at[-1]} s".encode())
+
+    signal.signal(signal.SIGALRM, show)
+    signal.setitimer(signal.ITIMER_REAL, 1, 1)
+    try:
+        yield
+    finally:
+        signal.setitimer(signal.ITIMER_REAL, 0)
+        if shown_at:
+            progress("")
+
+
 class Parser(argparse.ArgumentParser):
     """A parser of a command's words, whose help has at most 80 columns."""
 
@@ -297,7 +312,7 @@ def read(path):
     of a failed open, does not.
     """
     try:
-        with sys.stdin.buffer if path == "-" else open(path, "rb") as file:
+        with contextlib.nullcontext(sys.stdin.buffer) if path == "-" else open(path, "rb") as file:
             return pieces(path, file)
     except OSError as error:
         error.filename = "standard input" if path == "-" else path or "''"
@@ -316,9 +331,26 @@ def pieces(path, file):
 
 
 def write(path, data):
-    """Writes a text or bytes to a file, which a fault names."""
+    """Writes a text or bytes to a file, which a fault names. Until all is written, one that is there stays."""
+    data = data if isinstance(data, bytes) else data.encode("utf-8", "surrogateescape")
+    place = os.path.realpath(path)
+    # (what is no file, as a device, can't be replaced; and /dev/stdout is a file that others have open)
+    is_stream = os.path.exists(place) and not os.path.isfile(place) or path.startswith(("/dev/", "/proc/"))
     try:
-        with open(path, "wb") as file:
-            file.write(data if isinstance(data, bytes) else data.encode("utf-8", "surrogateescape"))
+        if is_stream:
+            with open(path, "wb") as file:
+                file.write(data)
+            return
+        with undone(lambda: open(f"{place}.{os.getpid()}", "xb"), removed) as file, file:
+            if os.path.exists(place):
+                os.chmod(file.name, os.stat(place).st_mode & 0o7777)
+            file.write(data)
+            file.close()
+            os.replace(file.name, place)
     except OSError as error:
         raise Refused(f"{path}: {error.strerror}", FILE) from None
+
+
+def removed(file):
+    with contextlib.suppress(OSError):
+        os.unlink(file.name)

@@ -12,7 +12,7 @@ import sys
 import time
 from typing import NamedTuple, Optional
 
-from . import FILE, LATE, TEXT, Refused, child, in_memory, progress, shown
+from . import FILE, LATE, TEXT, Refused, child, in_memory, progress, shown, working
 from .games import Solution, solution_of
 
 TOP = os.path.abspath(os.path.join(os.path.dirname(__file__), "..", "..", "..", ".."))
@@ -49,13 +49,16 @@ class Solved(NamedTuple):
 @functools.lru_cache(maxsize=None)
 def engine():
     """What solves and verifies. Only this knows which: a program that PGBOARD names, else the library, else
-    a program that is found.
+    a program that is found. A proved program of the clone comes before its library without proofs.
     """
     if os.environ.get("PGBOARD") and not os.environ.get("PGBOARD_LIBRARY"):
         return Program("PGBOARD names a program, and PGBOARD_LIBRARY no library")
     try:
-        from .. import calls
+        from .. import calls, library
 
+        # (which loads it)
+        if library.build() != "proved" and not os.environ.get("PGBOARD_LIBRARY") and has_proved():
+            return Program("the program of this clone is proved, and its library is not")
         return Library(calls)
     except ImportError as error:
         why = str(error).replace("pgboard: ", "", 1)
@@ -69,10 +72,7 @@ def solved(game, known=None, timeout=None, partial=False, until=None):
     seconds were not enough. The library ends once it has settled the vertex `until`.
     """
     begun = time.monotonic()
-    try:
-        solution, is_whole, entries = engine().solve(game, known, timeout, partial, until)
-    finally:
-        progress("")
+    solution, is_whole, entries = engine().solve(game, known, timeout, partial, until)
     found = Solved(solution, is_whole, time.monotonic() - begun, entries)
     if is_whole:
         verify(game, solution)
@@ -146,8 +146,12 @@ class Library:
                 except self.calls.RefusedClaim as fault:
                     refuse_known(known, table.said(fault, claim))
             board._advance = watched(board, len(table.ids), table.number.get(until))
-            with contextlib.suppress(self.calls.TimedOut):
+            try:
                 board.finish(timeout=timeout)
+            except self.calls.TimedOut:
+                pass
+            finally:
+                progress("")
             rows, entries = table.rows(board.state()), len(board.entries)
         is_whole = len(rows) == len(table.ids)
         if not is_whole and not partial and until not in rows:
@@ -211,7 +215,7 @@ def refuse_known(known, said):
 
 
 class Program:
-    """Solves by the program, which says nothing before its end."""
+    """Solves by the program, which says nothing before its end: on a terminal a line says that it runs."""
 
     # (several may find other choices in another run)
     workers = 1
@@ -222,6 +226,7 @@ class Program:
     def run(self, *words, timeout=None):
         """The status where it is 0 or 1, what is written, and what is said. A word in bytes is a file."""
         with contextlib.ExitStack() as files:
+            files.enter_context(working(f"{words[0]} runs"))
             held = []
             for at, word in enumerate(words):
                 if not isinstance(word, str):
@@ -301,17 +306,22 @@ def plain(game):
     return type(game)({id: (*row[:3], "") for id, row in game.rows.items()})
 
 
+def has_proved():
+    """Whether the clone has a proved program."""
+    places = "out/proved/pgboard", "crates/pgboard_program/out/pgboard_program"
+    return any(os.path.isfile(os.path.join(TOP, it)) for it in places)
+
+
 def program():
     """The words that run pgboard: PGBOARD's, else this clone's build, a proved one before another, else the
     PATH's.
     """
     named, launcher = os.environ.get("PGBOARD"), os.path.join(TOP, "pgboard")
     if named:
-        return [named] if os.path.isfile(named) else words_of(named)
-    there = lambda *path: os.path.isfile(os.path.join(TOP, *path))
-    if there("out", "proved", "pgboard") or there("crates", "pgboard_program", "out", "pgboard_program"):
+        return [os.path.abspath(named)] if os.path.isfile(named) else words_of(named)
+    if has_proved():
         return [launcher]
-    if there("out", "unproved", "pgboard"):
+    if os.path.isfile(os.path.join(TOP, "out/unproved/pgboard")):
         return [launcher, "--unproved"]
     if shutil.which("pgboard"):
         return ["pgboard"]

@@ -10,31 +10,37 @@ that its owner loses gets an edge to itself.
 import re
 from array import array
 
-from . import TEXT, WORDS, Refused, called, line_of, printable
-from .texts import MOST, Statement, Text, text_of
+from . import TEXT, WORDS, Refused, called, line_of, printable, working
+from .texts import MOST, Statement, Text, blanked, text_of
 
 MOST_VERTICES, MOST_EDGES = 1_048_576, 16_777_216
 PLAYERS = ("Even", "Odd")
 # (before a semicolon the name ends, and its last letter is a backslash)
-NAME = rf'"(?:[^"]|(?<=\\)"(?!{Statement.blank};))*"'
-NUMBERS = rf"[0-9]+(?:{Statement.blank},{Statement.blank}[0-9]+)*"
+NAME = rf'"(?:[^"]*"(?<!\\")|[\s\S]*?(?:(?<!\\)"|"(?={Statement.blank};)))'
 NUMBER, PLAYER = "[0-9]+(?![0-9A-Za-z_])", "0*[01](?![0-9A-Za-z_])"
 REST = ("", NAME, True), ("a semicolon", ";", False)
 ID = "an identifier", NUMBER, False
 PRIORITY = "a priority", NUMBER, False
-VERTEX = Statement(ID, PRIORITY, ("an owner, 0 or 1", PLAYER, False), ("", NUMBERS, True), *REST)
+VERTEX = Statement(ID, PRIORITY, ("an owner, 0 or 1", PLAYER, False), ("", Statement.numbers, True), *REST)
 CHOICE = Statement(ID, ("a winner, 0 or 1", PLAYER, False), ("", NUMBER, True), *REST)
 START, HEADER, SOLUTION_HEADER = (
     Statement(("", f"(?:{word})(?![a-z])", False), ("a number", NUMBER, False), REST[1])
     for word in ("start", "(?:min-?|max-?)?parity", "paritysol")
 )
 TOKEN = re.compile(r"[0-9]+|[A-Za-z]+|\S|$|\s")
-COMMENT = re.compile(rf"{NAME}|(?:#|//)[^\n]*")
-# what a text is that is no game, by how it begins, and what to do
+# (a quote that is never closed begins none)
+COMMENT = re.compile(rf'{NAME}|"[\s\S]*|(?:#|//)[^\n]*')
+# what a text is that is no game or no solution, by how it begins, and what to do
 FOREIGN = {
-    r"paritysol\b|[^;\n]*(?i:player [01] wins|won by )": "this is a solution, and a game has to be here: "
-    "`convert --solution` reads it",
-    "[pc] ": "this is a line of the DIMACS formats, which are not read",
+    VERTEX: {
+        r"paritysol\b|[^;\n]*(?i:player [01] wins|won by )": "this is a solution, and a game has to be here: "
+        "`convert --solution` reads it",
+        "[pc] ": "this is a line of the DIMACS formats, which are not read",
+    },
+    CHOICE: {
+        rf"HOA:|(?:start|m..-?parity|parity)\b|{NUMBER}\s+{NUMBER}\s+{PLAYER}\s+[0-9]": "this is a game, and a "
+        "solution has to be here"
+    },
 }
 
 
@@ -43,7 +49,7 @@ def statements(text, *kinds):
     at, end = 0, len(text.text.rstrip(" \t\r\n"))
     while at < end:
         for kind in kinds:
-            found = kind.pattern.match(text.text, at)
+            found = kind.match(text.text, at)
             if found:
                 break
         else:
@@ -56,9 +62,9 @@ def refuse_statement(text, at, line, *headers):
     """Refuses the statement that begins at a place, for the first of its parts that is not there."""
     missing = [it.missing(text.text, at) for it in headers]
     at, begins, what = next((it for it in missing if it[0] > it[1]), line.missing(text.text, at))
-    for beginning, why in FOREIGN.items() if begins == at and line is VERTEX else ():
-        if re.compile(beginning).match(text.text, at):
-            text.refuse(why, at)
+    for beginning, why in FOREIGN[line].items() if not text.text[:begins].strip() else ():
+        if re.compile(beginning).match(text.text, begins):
+            text.refuse(why, begins)
     found = TOKEN.match(text.text, at)
     if found[0] == '"':
         text.refuse("this quote is never closed", at)
@@ -71,7 +77,7 @@ def without_comments(text):
     """The text with blanks in place of its comments, so that all places stay."""
     if "#" not in text and "//" not in text:
         return text
-    return COMMENT.sub(lambda it: it[0] if it[0][0] == '"' else " " * len(it[0]), text)
+    return blanked(text, COMMENT)
 
 
 def check_size(path, vertices, edges):
@@ -86,11 +92,15 @@ class Game:
     """
 
     def __init__(self, rows=(), path="the game", text="", start=None):
-        self.rows, self.edges, self.path, self.places, self.start = {}, 0, path, {}, start
+        self.rows, self.edges, self.path, self.start = {}, 0, path, start
+        # where rows begin, in their order
+        self.places = array("I")
         self.source = Text(path, text)
-        # what the text says of priorities, where it is not the game's; which of them decides; and the
+        # what the text says of priorities, where it is not the game's; which of them decides; and the same of
         # vertices without successors, which have an edge to themselves here
-        self.given, self.decides, self.dead = {}, "greatest", set()
+        self.given, self.decides, self.dead = {}, "greatest", {}
+        # the vertices of the states of a text in the HOA format
+        self.states = {}
         for id, row in dict(rows).items():
             self.put(id, *row)
 
@@ -113,9 +123,8 @@ class Game:
     def close(self, id):
         """Gives a vertex without successors an edge to itself: no walk leaves it, so its priority decides."""
         priority, owner, _, name = self.rows[id]
-        self.given.setdefault(id, priority)
-        self.dead.add(id)
-        self.put(id, 1 - owner, owner, [id], name)
+        self.dead[id] = self.given.get(id, priority)
+        self.put(id, 1 - owner, owner, (id,), name)
 
     def successors(self, id):
         """Those that the text has."""
@@ -123,7 +132,7 @@ class Game:
 
     def priority(self, id):
         """What the text says of it."""
-        given = self.given.get(id, self.rows[id][0])
+        given = self.dead[id] if id in self.dead else self.given.get(id, self.rows[id][0])
         return "none" if given is None else given
 
     def arrays(self):
@@ -131,7 +140,8 @@ class Game:
         successors begin, and all successors.
         """
         ids = sorted(self.rows)
-        numbers, rows = {id: v for v, id in enumerate(ids)}, [self.rows[id] for id in ids]
+        numbers = ids if ids[-1] == len(ids) - 1 else {id: v for v, id in enumerate(ids)}
+        rows = [self.rows[id] for id in ids]
         starts, targets = array("I", [0]), array("I")
         for row in rows:
             targets.extend([numbers[it] for it in row[2]])
@@ -140,14 +150,12 @@ class Game:
         return ids, owners, priorities, starts, targets
 
     def read(self, least, odd, closes):
-        text, dead = Text(self.path, without_comments(self.source.text)), []
+        text = Text(self.path, without_comments(self.source.text))
         # what the header or a flag says that decides
         says = "min" if least else ""
         for kind, found in statements(text, VERTEX, START, HEADER):
             if kind is VERTEX:
-                id = self.add(found)
-                if not found[4]:
-                    dead.append(id)
+                self.add(found)
             elif kind is START:
                 self.set_start(found)
             elif self.rows:
@@ -158,28 +166,31 @@ class Game:
                     other = "--min" if least else "another one"
                     text.refuse(f"this header contradicts {other}", found.start(1))
                 says = word
-        if dead and not closes:
-            self.refuse(
-                dead[0], f"vertex {dead[0]} has no successor: with --dead-ends its owner loses there"
-            )
+        for id in self.dead if not closes else ():
+            self.refuse(id, f"vertex {id} has no successor: with --dead-ends its owner loses there")
         self.check()
         if says == "min" or odd:
             self.turn(says == "min", odd)
-        for id in dead:
+        for id in self.dead:
             self.close(id)
 
     def add(self, found):
         id, priority = number_of(self.source, found, 1), number_of(self.source, found, 2)
-        _, _, owner, to, name, _ = found.groups()
+        owner, to, name = found.group(3, 4, 5)
+        check_size(self.path, 0, (to or "").count(","))
         each = to.split(",") if to else [""]
         # (numbers of few digits are not too large)
         is_short = to and len(max(each, key=len)) < 10
-        targets = dict.fromkeys(map(int, each) if is_short else self.numbers(found, to))
+        targets = [*(map(int, each) if is_short else self.numbers(found, to))]
+        each.clear()
+        if len(targets) > 1 and len(set(targets)) < len(targets):
+            targets = dict.fromkeys(targets)
         if id in self.rows:
             self.source.refuse(f"vertex {id}: specified twice", found.start(1))
-        self.places[id] = found.start(1)
-        self.put(id, priority, int(owner[-1]), list(targets), name[1:-1].replace('\\"', '"') if name else "")
-        return id
+        self.places.append(found.start(1))
+        self.put(id, priority, int(owner[-1]), tuple(targets), name[1:-1].replace('\\"', '"') if name else "")
+        if not to:
+            self.dead[id] = priority
 
     def numbers(self, found, to):
         for it in re.finditer("[0-9]+", to or ""):
@@ -214,14 +225,12 @@ class Game:
 
     def refuse(self, id, why, number=None):
         """Refuses the game for a vertex, or for a number of its line."""
-        if id not in self.places:
+        at = place_of(self.places, self.rows, id)
+        if at is None:
             raise Refused(f"{called(self.path)}: {why}")
-        at = self.places[id]
         if number is not None:
-            match = VERTEX.pattern.match
-            text = self.source.text
-            found = match(text, at) or match(without_comments(text), at)
-            at = re.compile(rf"(?<![0-9])0*{number}(?![0-9])").search(text, found.start(4)).start()
+            found = VERTEX.match(without_comments(self.source.text), at)
+            at = re.compile(rf"(?<![0-9])0*{number}(?![0-9])").search(found.string, found.start(4)).start()
         self.source.refuse(why, at)
 
     def called(self, id):
@@ -237,11 +246,21 @@ class Game:
         return "".join(lines)
 
 
+def place_of(places, rows, id):
+    """Where the row of an identifier begins, of those of all rows, or None."""
+    return places[list(rows).index(id)] if places and id in rows else None
+
+
 def game_of(path, rules):
     return game_of_text(path, text_of(path), rules)
 
 
 def game_of_text(path, text, rules):
+    with working(f"reads {called(path)}"):
+        return read_game(path, text, rules)
+
+
+def read_game(path, text, rules):
     if not text.lstrip().startswith("HOA:"):
         return Game.of_text(path, text, rules)
     if rules.min or rules.odd:
@@ -272,24 +291,29 @@ def reached(start, expand):
     return vertices, rows
 
 
+# (one pair for all that have no choice)
+ALONE = (0, None), (1, None)
+
+
 class Solution:
     """Of some vertices (winner, choice or None), and where the text that it came from says so."""
 
-    def __init__(self, rows, path="the solution", text="", places=None):
-        self.rows, self.path, self.text, self.places = rows, path, text, places or {}
+    def __init__(self, rows, path="the solution", text=""):
+        self.rows, self.path, self.text, self.places = rows, path, text, array("I")
 
     def add(self, id, winner, choice, at):
-        self.rows[id], self.places[id] = (winner, choice), at
+        if id not in self.rows:
+            self.places.append(at)
+        self.rows[id] = ALONE[winner] if choice is None else (winner, choice)
         if len(self.rows) > MOST_VERTICES:
             raise Refused(f"{called(self.path)}: more than {MOST_VERTICES:,} vertices")
 
     def line(self, id):
-        return line_of(self.text, self.places[id])
+        return line_of(self.text, place_of(self.places, self.rows, id))
 
     def refuse(self, id, why, status=TEXT):
-        if id in self.places:
-            raise Refused(why, status, (self.path, self.text, self.places[id]))
-        raise Refused(f"{called(self.path)}: {why}", status)
+        at = place_of(self.places, self.rows, id)
+        raise Refused(why, status, (self.path, self.text, at))
 
     def check(self, game, is_part=False):
         """Refuses what has other vertices than the game, or unless it is a part lacks one."""
@@ -323,7 +347,7 @@ def solution_of(path, text):
     if not begun and listings.HEAD.search(text):
         return listings.Listing(path, text).solution
     begins = begun.start() if begun else 0
-    lines = re.sub(r"[^\n]", " ", text[:begins]) + without_comments(text[begins:])
+    lines = re.sub(r"[^\n]+", lambda it: " " * len(it[0]), text[:begins]) + without_comments(text[begins:])
     source, solution = Text(path, text), Solution({}, path, text)
     for kind, found in statements(Text(path, lines), CHOICE, SOLUTION_HEADER):
         if kind is CHOICE:

@@ -9,14 +9,18 @@ Buchi's, are such ones. Whatever is not read is refused with its place.
 
 # mypy: ignore-errors
 
+import operator
 import re
+from array import array
 
 from . import WORDS, Refused, called, shown
-from .games import Game, reached
+from .games import Game, place_of, reached
 from .texts import Tokens, kinds
 
 MOST_PROPOSITIONS = 14
 MOST = 10**9
+# the labels, of which each has a bit for each letter, take so many bits together
+MOST_BITS = 1 << 30
 # what reads the rest of each header that is known
 HEADERS = {
     "HOA:": "version",
@@ -32,8 +36,10 @@ HEADERS = {
 # headers that may say whose a state or a proposition is
 PLAYERS = re.compile("(?i)player|owner|controll")
 COMMENT = re.compile(r"(/\*)|\*/")
+IN_STRING = re.compile(r'(?s)\\.|"')
 # of names that `acc-name` gives whether the greatest set decides, whether odd ones accept, and how many sets
 # there are
+VALUES = {"t": ["t"], "f": ["f"]}
 NAMED = {"Buchi": (True, 0, 1), "co-Buchi": (True, 1, 1), "all": (True, 1, 0), "none": (True, 0, 0)}
 
 
@@ -42,7 +48,7 @@ class Text(Tokens):
 
     pattern = kinds(
         blank=r"\s+|/\*",
-        string=r'"(?:\\.|[^"\\])*"',
+        string='"',
         header=r"[A-Za-z_][\w.-]*:",
         name=r"@[\w-]+|[A-Za-z_][\w-]*",
         number=r"[0-9]{1,9}(?![0-9])",
@@ -51,12 +57,15 @@ class Text(Tokens):
     )
 
     def end_of(self, found):
+        if found[0] == '"':
+            ends = (it.end() for it in IN_STRING.finditer(self.text, found.end()) if it[0] == '"')
+            return next(ends, None) or self.refuse("this quote is never closed", found.start())
         return self.end_of_nested(COMMENT, found.start()) if found[0] == "/*" else found.end()
 
     def number(self, below):
         if not below:
             self.refuse("no number can stand here")
-        if not self.next_is("a number") or int(self.left[-1].text) >= below:
+        if not self.next_is("a number") or int(self.next.text) >= below:
             known = {1: "0", 2: "0 or 1", MOST: "a number"}
             self.wants(known.get(below, f"a number from 0 to {below - 1}"))
         return int(self.take("a number").text)
@@ -101,8 +110,10 @@ class Automaton:
         self.tokens = Text(path, text)
         self.first = self.names = self.controllable = self.condition = self.owners = self.name = None
         self.states = MOST
-        self.aliases, self.edges, self.targets, self.places, self.called = {}, {}, {}, {}, {}
-        self.headers = set()
+        # (equal labels are one)
+        self.aliases, self.edges, self.called, self.labels, self.headers = {}, {}, {}, {}, set()
+        # where states are described, in the order of these; and of each that is not yet, where it is first named
+        self.places, self.targets = array("I"), {}
         if not self.tokens.next_is("HOA:"):
             self.tokens.refuse("expected HOA:")
         while not self.tokens.takes("--BODY--"):
@@ -117,11 +128,11 @@ class Automaton:
         self.states = min(self.states, MOST if self.owners is None else len(self.owners))
         while not self.tokens.takes("--END--"):
             self.state()
-        if self.tokens.left:
+        if self.tokens.next:
             self.tokens.refuse("only one automaton is read")
-        for state, at in {**self.targets, self.first: self.targets.get(self.first)}.items():
+        for state in [*self.targets, self.first]:
             if state not in self.edges:
-                self.tokens.refuse(f"state {state} is not described", at)
+                self.tokens.refuse(f"state {state} is not described", self.targets.get(state))
 
     def need(self, *headers):
         for header in headers:
@@ -189,7 +200,7 @@ class Automaton:
         if name[0] != "@" or name in self.aliases:
             why = "is defined twice" if name in self.aliases else "does not begin with @"
             self.tokens.refuse(f"the alias {shown(name)} {why}", at)
-        self.aliases[name] = self.label()
+        self.aliases[name] = self.kept(self.label())
 
     def acceptance(self):
         at, count = self.tokens.at(), self.tokens.number(MOST)
@@ -207,7 +218,7 @@ class Automaton:
             tokens.take(")")
             return tree
         if tokens.next_is("t", "f"):
-            return [tokens.take("a name").text]
+            return VALUES[tokens.take("a name").text]
         name = tokens.take("Inf", "Fin").text
         tokens.take("(")
         number = tokens.number(MOST)
@@ -239,11 +250,12 @@ class Automaton:
         number = priority - 2 + odd if greatest else count + (count + odd) % 2 - priority
         return number if 0 <= number < count else None
 
-    def sets(self):
-        found = []
+    def sets(self, *found):
+        """The set that decides among these and those that come next, in a list which may be empty."""
+        pick = max if self.condition[0] else min
         if self.tokens.takes("{"):
             while not self.tokens.takes("}"):
-                found.append(self.tokens.number(self.condition[2]))
+                found = [pick([*found, self.tokens.number(self.condition[2])])]
         return found
 
     def state(self):
@@ -254,9 +266,11 @@ class Automaton:
         at, state = tokens.at(), tokens.number(self.states)
         if state in self.edges:
             tokens.refuse(f"state {state} is described twice", at)
-        self.places[state] = at
-        self.called[state] = tokens.string() if tokens.next_is("a string") else ""
-        here, edges, seen = self.sets(), [], 0
+        self.places.append(at)
+        self.targets.pop(state, None)
+        if tokens.next_is("a string"):
+            self.called[state] = tokens.string()
+        here, edges, seen = self.sets(), self.edges.setdefault(state, []), 0
         implied = common is None and tokens.next_is("a number")
         while not tokens.next_is("State:", "--END--"):
             at = tokens.at()
@@ -266,24 +280,30 @@ class Automaton:
                 tokens.refuse(f"not deterministic: {why}", at)
             seen |= letters
             at, target = tokens.at(), tokens.number(self.states)
-            self.targets.setdefault(target, at)
-            edges.append((letters, self.priority(here + self.sets()), target))
+            if target not in self.edges:
+                self.targets.setdefault(target, at)
+            edges.append((letters, self.priority(self.sets(*here)), target))
         if implied and len(edges) != 1 << len(self.names):
             count = f"{len(edges)} edges without labels"
             tokens.refuse(f"{count}, where each of {1 << len(self.names)} letters has to have one")
-        self.edges[state] = [it for it in edges if it[0]]
+        edges[:] = filter(operator.itemgetter(0), edges)
 
     def implied(self, at):
         """The letter of an edge without a label: the first edge's is that without propositions, and so on."""
         if not self.tokens.next_is("a number") or at >= 1 << len(self.names):
             self.tokens.refuse("expected an edge without a label for each letter, and no other edge")
-        return 1 << at
+        return self.kept(1 << at)
 
     def bracket(self):
         self.tokens.take("[")
-        letters = self.label()
+        letters = self.kept(self.label())
         self.tokens.take("]")
         return letters
+
+    def kept(self, letters):
+        if len(self.labels) << len(self.names) > MOST_BITS:
+            self.tokens.refuse(f"the labels have more than {MOST_BITS:,} letters")
+        return self.labels.setdefault(letters, letters)
 
     def label(self):
         return self.nested(
@@ -306,7 +326,7 @@ class Automaton:
             return letters
         if tokens.next_is("a number"):
             return self.holds[tokens.number(len(self.names))]
-        name = tokens.left[-1].text if tokens.left else ""
+        name = tokens.next.text if tokens.next else ""
         known = self.aliases if name in self.aliases else {"t": self.all, "f": 0}
         if name not in known:
             tokens.refuse("expected a number of a proposition, t, f, an alias from above, ! or (")
@@ -345,7 +365,7 @@ class Automaton:
 
     def check_moves(self, state, player):
         """Refuses a state that is not the player's, or whose edges are no choices of his propositions."""
-        refuse = lambda why: self.tokens.refuse(f"state {state}: {why}", self.places[state])
+        refuse = lambda why: self.tokens.refuse(f"state {state}: {why}", place_of(self.places, self.edges, state))
         if self.owners[state] != player:
             turns = "they have to take turns, and player 0 begins"
             refuse(f"player {1 - player}'s, where player {player} moves: {turns}")
@@ -411,7 +431,10 @@ def game_of(automaton, closes):
     if closes:
         why = "--dead-ends is for a game, and an automaton needs none"
         raise Refused(f"{called(automaton.tokens.path)}: {why}", WORDS)
-    return Game.of_rows(Arena(automaton).rows)
+    arena = Arena(automaton)
+    game = Game.of_rows(arena.rows)
+    game.states = {it[1]: at for it, at in arena.numbers.items() if it[0] == "state"}
+    return game
 
 
 def owned(automaton, closes):
@@ -419,8 +442,9 @@ def owned(automaton, closes):
     accept; 0 decides nowhere.
     """
     game = Game((), automaton.tokens.path, automaton.tokens.text, automaton.first)
-    game.places, last = automaton.places, max(automaton.edges)
+    last = max(automaton.edges)
     game.decides = "greatest" if automaton.condition[0] else "least"
+    game.states = dict(zip(automaton.edges, automaton.edges))
 
     def put(id, own, *row):
         game.put(id, own + 1, *row)
@@ -436,11 +460,11 @@ def owned(automaton, closes):
                 successors.append(last)
                 put(last, own, owner, [to], f"{state} to {to}")
             priorities = {-1}
-        put(state, *(priorities or {-1}), owner, list(successors), automaton.called[state])
+        put(state, *(priorities or {-1}), owner, list(successors), automaton.called.get(state, ""))
         if not edges:
             if not closes:
                 why = f"state {state} has no edge: with --dead-ends its owner loses there"
-                automaton.tokens.refuse(why, automaton.places[state])
+                automaton.tokens.refuse(why, place_of(automaton.places, automaton.edges, state))
             game.close(state)
     game.rows = dict(sorted(game.rows.items()))
     return game

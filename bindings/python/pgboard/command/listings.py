@@ -2,7 +2,7 @@
 
 A part of a listing begins with `Player 0 wins from nodes:` or `won by even:`. There follow vertices and moves
 as `0->1`, to the end of the line; or vertices in braces, and moves in brackets, also on lines of their own.
-Lines between parts are passed over.
+Lines between parts are passed over, unless they begin as a part does and name no player.
 """
 
 # mypy: ignore-errors
@@ -12,10 +12,11 @@ import re
 from .games import NUMBER, TOKEN, Solution
 from .texts import Text
 
-BEGINS = r"[^\w\n]*(?:player|won by|winner)[^\w\n]*(0|1|even|odd)\b"
+BEGINS = r"[^\w\n]*(?:won by|(?:player|winner)(?=[^\w\n]*(?:0|1|even|odd|\w+[^\w\n]*(?:wins|:))\b))[^\w\n]*(\w*)"
 HERE, HEAD = re.compile(f"(?i){BEGINS}"), re.compile(f"(?im)^{BEGINS}")
 WINS = re.compile(r"(?i)(?:[ \t]+wins)?(?:[ \t]+from)?(?:[ \t]+nodes)?:?")
-STRATEGY, BLANK = re.compile("(?i)with[ \t]+strategy:?"), re.compile(r"\s*")
+STRATEGY, BLANK, SPACE = re.compile("(?i)with[ \t]+strategy:?"), re.compile(r"\s*"), re.compile(r"[^\S\n]*")
+PLAYERS = {"0": 0, "even": 0, "1": 1, "odd": 1}
 ENDS = re.compile(r"[ \t\r]*(?:\n|\Z)")
 
 
@@ -24,11 +25,14 @@ class Listing(Text):
 
     def __init__(self, path, text):
         super().__init__(path, text)
-        self.solution, self.at = Solution({}, path, text), 0
+        # what may stand between tokens here
+        self.solution, self.at, self.blank = Solution({}, path, text), 0, BLANK
         head = HEAD.search(text)
         while head:
+            if head[1].lower() not in PLAYERS:
+                self.expect("a player: 0, 1, even or odd", head.start(1), head.end(1))
             self.at = WINS.match(text, head.end()).end()
-            self.part(int(head[1].lower() in ("1", "odd")))
+            self.part(PLAYERS[head[1].lower()])
             # (another part may stand on the same line)
             head = HERE.match(text, self.at)
             if not head and not self.takes(ENDS):
@@ -43,17 +47,17 @@ class Listing(Text):
 
     def sign(self, text):
         """Whether a sign comes next, which is passed."""
-        self.takes(BLANK)
+        self.takes(self.blank)
         begins = self.text.startswith(text, self.at)
         self.at += len(text) * begins
         return begins
 
     def wants(self, what):
-        at = BLANK.match(self.text, self.at).end()
+        at = self.blank.match(self.text, self.at).end()
         self.expect(what, at, TOKEN.match(self.text, at).end())
 
     def part(self, player):
-        begins = self.at
+        begins, self.blank = self.at, BLANK
         if self.sign("{"):
             self.items(player, "}", self.vertex)
             begins = self.at
@@ -62,17 +66,17 @@ class Listing(Text):
                 if not self.sign("["):
                     self.wants("[")
                 self.items(player, "]", self.move)
-                return
-        elif self.text[self.at : self.at + 1].isdigit():
-            while self.text[self.at : self.at + 1].isdigit():
-                at = self.vertex(player)
-                begins = self.at
-                if self.sign("->"):
-                    self.choose(player, at)
-                    begins = self.at
-                self.sign(",")
-                self.takes(BLANK)
-        self.at = begins
+            else:
+                self.at = begins
+            return
+        self.at, self.blank = begins, SPACE
+        self.takes(SPACE)
+        while self.text[self.at : self.at + 1].isdigit():
+            at = self.vertex(player)
+            if self.sign("->"):
+                self.choose(player, at)
+            self.sign(",")
+            self.takes(SPACE)
 
     def items(self, player, closing, item):
         is_empty = True
@@ -83,7 +87,7 @@ class Listing(Text):
             is_empty = False
 
     def number(self):
-        at = BLANK.match(self.text, self.at).end()
+        at = self.blank.match(self.text, self.at).end()
         found = NUMBER_HERE.match(self.text, at)
         if not found:
             self.wants("a vertex")

@@ -12,7 +12,7 @@ import subprocess
 import zlib
 from typing import NamedTuple
 
-from . import Refused, begun, called, in_memory, pieces, read, shown
+from . import Refused, called, end, in_memory, pieces, read, shown, undone
 
 # how packed files begin, and the module that unpacks them; `zstd` is a command
 PACKED = {b"\x1f\x8b": "gzip", b"BZh": "bz2", b"\xfd7zXZ\0": "lzma", b"\x28\xb5\x2f\xfd": "zstd"}
@@ -37,7 +37,9 @@ def unpacked(path, data, kind):
 
 def by_zstd(path, data):
     with in_memory(data) as given, in_memory() as said:
-        with begun(["zstd", "-dc"], stdin=given, stdout=subprocess.PIPE, stderr=said) as process:
+        # (it ends with us, since then nobody reads its pipe)
+        how = {"stdin": given, "stdout": subprocess.PIPE, "stderr": said}
+        with undone(lambda: subprocess.Popen(["zstd", "-dc"], **how), end) as process:
             data = pieces(path, process.stdout)
             if process.wait():
                 said.seek(0)
@@ -50,10 +52,14 @@ def bytes_of(*paths):
     """The bytes of files, of which one may be standard input, unpacked."""
     if paths.count("-") > 1:
         raise Refused("- is standard input, which can't be two files", 2)
+    kind_of = lambda data: next((kind for begins, kind in PACKED.items() if data.startswith(begins)), None)
     for path in paths:
         data = read(path)
-        packed = next((kind for begins, kind in PACKED.items() if data.startswith(begins)), None)
-        yield unpacked(path, data, packed) if packed else data
+        kind = kind_of(data)
+        data = unpacked(path, data, kind) if kind else data
+        if kind and kind_of(data):
+            raise Refused(f"{called(path)}: it is packed twice: unpack it once, by {kind}")
+        yield data
 
 
 def decoded(path, data):
@@ -68,6 +74,20 @@ def texts_of(*paths):
 
 def text_of(path):
     return texts_of(path)[0]
+
+
+def blanked(text, pattern):
+    """The text with blanks in place of what a pattern finds, so that all places stay, but for what begins
+    with a quote.
+    """
+    kept, at = [], 0
+    for found in pattern.finditer(text):
+        begins, ends = found.span()
+        if text[begins] != '"':
+            kept += text[at:begins], " " * (ends - begins)
+            at = ends
+    kept.append(text[at:])
+    return "".join(kept)
 
 
 class Text:
@@ -96,15 +116,25 @@ class Text:
 
 class Statement:
     """A kind of statement: how it is spelled, and its parts, (what is expected, how it is spelled, whether it
-    may be left out). Blanks may stand before each part.
+    may be left out). Blanks may stand before each part, and it is taken as the first match has it.
     """
 
     blank = r"[ \t\r\n]*"
+    # (a group in a repeat would take some 100 bytes for each number: they are looked at again for a comma before
+    # no number, and for blanks between two)
+    numbers, wrong = r"[0-9][0-9, \t\r\n]*", re.compile(r",(?!\s*[0-9])|(?<=[0-9])\s+(?=[0-9])")
 
     def __init__(self, *parts):
         self.parts = parts
-        spelled = (rf"(?:{self.blank}({part})){'?' * may_lack}" for _, part, may_lack in parts)
+        each = enumerate(parts, 1)
+        spelled = (rf"(?:{self.blank}(?=({part}))\{at}){'?' * may_lack}" for at, (_, part, may_lack) in each)
         self.pattern = re.compile("".join(spelled))
+        self.listed = next((at for at, it in enumerate(parts, 1) if it[1] == self.numbers), 0)
+
+    def match(self, text, at):
+        found = self.pattern.match(text, at)
+        is_wrong = found and self.listed and self.wrong.search(found[self.listed] or "")
+        return None if is_wrong else found
 
     def missing(self, text, at):
         """The place of the first part that is not there, where the statement begins, and what is expected."""
@@ -114,7 +144,8 @@ class Statement:
             begins = at if begins is None else begins
             found = re.compile(part).match(text, at)
             if found:
-                at = found.end()
+                wrong = part == self.numbers and self.wrong.search(text, at, found.end())
+                at = wrong.start() if wrong else found.end()
             elif not may_lack:
                 return at, begins, what
 
@@ -134,25 +165,29 @@ def kinds(**spelled):
 
 
 class Tokens(Text):
-    """The tokens of a text, taken one after the other. What is wanted of a token is its text or its kind."""
+    """The tokens of a text, found one after the other. What is wanted of a token is its text or its kind."""
 
     # of the kinds of tokens; and how a text may spell the text of another token
     pattern, same = None, {}
 
     def __init__(self, path, text):
         super().__init__(path, text)
-        self.left, self.done, at = [], 0, 0
-        while at < len(text):
-            found = self.pattern.match(text, at)
+        # the next token, or None; and where the last one that was taken ends
+        self.next, self.done = None, 0
+        self.next = self.token(0)
+
+    def token(self, at):
+        """The first token that begins at a place or after it, or None."""
+        while at < len(self.text):
+            found = self.pattern.match(self.text, at)
             if not found:
                 self.refuse("no token begins here", at)
-            at = self.end_of(found)
+            begins, at = at, self.end_of(found)
             if found[0] in self.same:
-                self.left.append(Token(self.same[found[0]], "a sign", found.start(), at))
-            elif found.lastgroup != "blank":
-                self.left.append(Token(text[found.start() : at], f"a {found.lastgroup}", found.start(), at))
-        self.end = self.left[-1].end if self.left else 0
-        self.left.reverse()
+                return Token(self.same[found[0]], "a sign", begins, at)
+            if found.lastgroup != "blank":
+                return Token(self.text[begins:at], f"a {found.lastgroup}", begins, at)
+        return None
 
     def end_of(self, found):
         """Where a token ends of which the pattern has found the beginning."""
@@ -174,17 +209,18 @@ class Tokens(Text):
 
     def at(self):
         """The place of the next token, or where the last one ends."""
-        return self.left[-1].at if self.left else self.end
+        return self.next.at if self.next else self.done
 
     def next_is(self, *wanted):
-        return bool(self.left) and (self.left[-1].text in wanted or self.left[-1].kind in wanted)
+        return bool(self.next) and (self.next.text in wanted or self.next.kind in wanted)
 
     def take(self, *wanted):
         """The next token, which has to be one that is wanted."""
         if not self.next_is(*wanted):
             self.wants(" or ".join(wanted))
-        token = self.left.pop()
+        token = self.next
         self.done = token.end
+        self.next = self.token(token.end)
         return token
 
     def takes(self, *wanted):
@@ -192,7 +228,7 @@ class Tokens(Text):
         return bool(self.next_is(*wanted) and self.take(*wanted))
 
     def wants(self, wanted):
-        self.expect(wanted, self.at(), self.left[-1].end if self.left else self.at())
+        self.expect(wanted, self.at(), self.next.end if self.next else self.at())
 
     def chain(self, operators, part, join):
         """What operators join, of which the first one binds least; `join` gets the operator, where its left

@@ -32,7 +32,7 @@ the controller of its propositions `controllable-AP`."""
 SOLVE = """Solves a game, verifies the solution, and writes it.
 
 On a terminal, standard error shows how many vertices are settled, where the library is found."""
-WINNER = """Says who wins a game from its `start` vertex, or from one that --vertex names.
+WINNER = """Says who wins a game from its `start` vertex, or from one that --vertex or --state names.
 
 With --reach, --game or --picture the result is the part of the winner's strategy that a play from there can
 reach: where the winner owns a vertex, the play takes his choice, and elsewhere it may take each edge."""
@@ -184,7 +184,12 @@ def reached(game, solution, start):
 
 def winner(given):
     game = game_of(given.game, given)
+    if given.state is not None and not game.states:
+        raise Refused("--state is for a file in the HOA format", WORDS)
+    if given.state is not None and given.state not in game.states:
+        raise Refused(f"{called(given.game)}: no play reaches a state {given.state}")
     start = game.start if given.vertex is None else given.vertex
+    start = start if given.state is None else game.states[given.state]
     if start not in game.rows:
         lacks = "no line `start` names a vertex: --vertex does"
         why = lacks if start is None else f"there is no vertex {start}"
@@ -195,13 +200,16 @@ def winner(given):
     rows = {id: solution[id] for id in part.rows}
     if not found.is_whole:
         engine.verify(part, Solution(rows))
+    state = {"state": it for it, vertex in game.states.items() if vertex == start}
     if given.json:
         reach = {"reach": sorted(part.rows)} if given.reach else {}
-        print_json({"vertex": start, "winner": player, **reach})
+        print_json({"vertex": start, **state, "winner": player, **reach})
     elif given.reach:
         print(Solution(rows).written(), end="", flush=True)
     else:
-        print(f"{PLAYERS[player]} wins vertex {start}", flush=True)
+        by_name = f"vertex {game.called(start) if game.states else start}"
+        named = f"state {state['state']}" if state and given.vertex is None else by_name
+        print(f"{PLAYERS[player]} wins {named}", flush=True)
     if given.part:
         write(given.part, part.written())
     if given.picture:
@@ -297,7 +305,9 @@ def parser():
     it = word(explains, "explain", EXPLAIN, JUDGED, "one")
     pictures.add_option(it, "what is wrong")
     it = word(winner, "winner", WINNER, f"0 where Even wins, 1 where Odd wins, {late}")
-    it.add_argument("--vertex", metavar="V", type=number, help="the vertex, by its identifier")
+    by = it.add_mutually_exclusive_group()
+    by.add_argument("--vertex", metavar="V", type=number, help="the vertex, by its identifier")
+    by.add_argument("--state", metavar="N", type=number, help="the state of a file in the HOA format")
     add_timeout(it)
     add_flags(it, reach="write the part that a play from there can reach, as a solution")
     it.add_argument("--game", dest="part", metavar="FILE", help="write that part as a game of one player")

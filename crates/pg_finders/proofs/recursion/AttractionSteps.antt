@@ -166,3 +166,18 @@ apart_push xs v A A' apart now w i = search (rules, prefix_or_rest, and_left, an
 
 pub no_further : {g : Graph} {p : Player} {D A S : VertexSet} → AttractsNoActive g p (union A S) D A → AttractsNoFurther g p (union A S) D S
 no_further {g = g} {p = p} {A = A} {S = S} d = search (rules, d.own, d.other, other_from_not, or_cases, no_both)
+
+-- where what is listed is active no more, no further vertex is one that is active
+pub none_active : {g : Graph} {p : Player} {A A' : VertexSet} {old new : Plan} {prefix list : List ℕ} → HasTaken g p A old prefix A' new list
+    → ((v : ℕ) → In (listed list) v → A' v ≡ false) → AttractsNoFurther g p (union A (listed prefix)) (listed list) (listed list)
+    → AttractsNoActive g p (union A (listed prefix)) (listed list) A'
+none_active {p = p} {A = A} {A' = A'} {prefix = prefix} {list = list} h apart d = record {
+  own = λ v w i o e. d.own v w (here v i) (out v i) o e;
+  other = λ v i o. d.other v (here v i) (out v i) (not_own p _ o);
+}
+  where
+    here : (v : ℕ) → In A' v → In (union A (listed prefix)) v
+    here v i = or_left (A v) (listed prefix v) (grown_active h v i)
+
+    out : (v : ℕ) → In A' v → listed list v ≡ false
+    out v i = false_from_ne_true (listed list v) (λ j. no_both i (apart v j))

@@ -3,7 +3,7 @@ use Rattle.pg_finders.proofs.Common.{◌≡◌, ℕ, ◌<◌, Bool, ◌&&◌, �
 use Rattle.pg_finders.proofs.Common.{refl, sym, ◌∙◌, ap, arith, append_assoc, rules, or_parts, false_from_ne_true, Player}
 use Rattle.pg_finders.proofs.Common.{opponent, Graph, VertexSet, In, members, own_or_other, Plan, Frame, Once, listed, SettledLists, settled_of}
 use Rattle.pg_finders.proofs.Common.{winners_of, choices_of, how_many, IsBegun, IsSolvedInside, active_of, count_at, prefix, level_at, AreOpenLevels, IsAtEnd, IsSolverState}
-use Rattle.pg_finders.proofs.Common.{how_many_gone, work}
+use Rattle.pg_finders.proofs.Common.{how_many_gone, work, priority_count}
 use Rattle.std.proofs.Common.{length-drop}
 use Rattle.pg_finders.specs.declared.recursion.Solver.{Solver}
 use Rattle.pg_finders.specs.private.recursion.Settled.{IsPlaced}
@@ -96,7 +96,7 @@ module _ {g : Graph} {inside : List Bool} {x z : Solver} {f : Frame} (h : IsAtEn
   some_aside : (v : ℕ) × In (listed B) v
   some_aside =
       let s = begun.some in
-      let b = only (I s.0) (L s.0) s.1 in
+      let b = only (I s.0) (L s.0) (begun.attracted.target s.0 s.1) in
       elim (cases s.0 b.0) [
         | inl (r, y) ↦ absurd (no_both (since_left frames f run r s.0 y) b.1)
         | inr y ↦ (s.0, y)
@@ -152,9 +152,9 @@ module _ {g : Graph} {inside : List Bool} {x z : Solver} {f : Frame} (h : IsAtEn
   }
 
   -- and fewer steps are left
-  pub finished_fewer : work (how_many inside) z < work (how_many inside) x
+  pub finished_fewer : work g inside z < work g inside x
   finished_fewer =
       let some : 0 < length (since p ++ B) = some_length (since p ++ B) some_aside.0 (in_rest (since p) B some_aside.0 some_aside.1) in
-      rw (c.frames, c.set_aside) (work_finish (how_many inside) (how_many_gone settled set_aside)
+      rw (c.frames, c.set_aside) (work_finish (priority_count g U) (how_many inside) (how_many_gone settled set_aside)
       (how_many_gone (settled_of z.parts.settled) (take f.set_aside set_aside)) frames f (finish_more frames f run settles (omega (arith, some)))
       (lists_fit inside now.apart now.listed_inside))

@@ -5,8 +5,9 @@ use Rattle.pg_finders.proofs.Common.{slice_set, Graph, Player, opponent, VertexS
 use Rattle.pg_finders.proofs.Common.{own_or_other, member_below, HasTaken, SameAt, winners_of, choices_of}
 use Rattle.pg_finders.specs.declared.recursion.parts.Parts.{Parts}
 use Rattle.pg_finders.specs.declared.recursion.settled.Settled.{Settled}
-use Rattle.pg_finders.specs.private.recursion.Settled.{IsPlaced, IsWithout}
-use Rattle.pg_finders.specs.private.recursion.Parts.{rest_of, free_of, AreParts, FitParts, AreFewerParts}
+use Rattle.pg_finders.specs.private.recursion.Settled.{since, IsPlaced, IsWithout}
+use Rattle.pg_finders.specs.declared.recursion.settled.Tail.{Tail}
+use Rattle.pg_finders.specs.private.recursion.Parts.{free_of, AreParts, FitParts, AreFewerParts}
 use Rattle.pg_finders.proofs.Masks.{members-unset}
 use Rattle.pg_finders.proofs.Sets.{no_both, only}
 use Rattle.pg_finders.proofs.recursion.ListsAsSets.{in_rest, prefix_or_rest, in_drop}
@@ -15,21 +16,21 @@ use Rattle.pg_finders.proofs.recursion.AttractionSteps.{grown_one, grown_then}
 use Rattle.pg_finders.proofs.recursion.PlacedLists.{listed_from_is}
 
 -- what is free, where the lists are placed
-pub free_is : {n : ℕ} {x : Parts} → AreParts n x → (v : ℕ) → free_of x v ≡ union (active_of x.subgame) (listed (rest_of x)) v
-free_is {n} {x} a v = ap (λ b. active_of x.subgame v || b)
-    (listed_from_is x.settled.places.items (settled_of x.settled x.player) (a.placed.table x.player) x.from v)
+pub free_is : {n : ℕ} {x : Parts} (t : Tail) → AreParts n x → (v : ℕ) → free_of t x v ≡ union (active_of x.subgame) (listed (since t x.settled)) v
+free_is {n} {x} t a v = ap (λ b. active_of x.subgame v || b)
+    (listed_from_is x.settled.places.items (settled_of x.settled t.player) (a.placed.table t.player) t.from v)
 
 -- a free vertex that is not active is settled
-pub settled_free : {n : ℕ} {x : Parts} → AreParts n x → (v : ℕ) → In (free_of x) v → active_of x.subgame v ≡ false → In (listed (rest_of x)) v
-settled_free {n} {x} a v i m = elim (or_cases (active_of x.subgame v) (listed (rest_of x) v) (sym (free_is a v) ∙ i)) [
+pub settled_free : {n : ℕ} {x : Parts} (t : Tail) → AreParts n x → (v : ℕ) → In (free_of t x) v → active_of x.subgame v ≡ false → In (listed (since t x.settled)) v
+settled_free {n} {x} t a v i m = elim (or_cases (active_of x.subgame v) (listed (since t x.settled) v) (sym (free_is t a v) ∙ i)) [
   | inl y ↦ absurd (no_both y m)
   | inr y ↦ y
 ]
 
-pub free_below : {n : ℕ} {x : Parts} → AreParts n x → (v : ℕ) → In (free_of x) v → v < n
-free_below {n} {x} a v i = elim (or_cases (active_of x.subgame v) (listed (rest_of x) v) (sym (free_is a v) ∙ i)) [
+pub free_below : {n : ℕ} {x : Parts} (t : Tail) → AreParts n x → (v : ℕ) → In (free_of t x) v → v < n
+free_below {n} {x} t a v i = elim (or_cases (active_of x.subgame v) (listed (since t x.settled) v) (sym (free_is t a v) ∙ i)) [
   | inl y ↦ (let l = member_below x.subgame.active v y in omega (arith, l, a.sizes.active))
-  | inr y ↦ all_listed (λ u. u < n) (settled_of x.settled x.player) (a.placed.below x.player) v (in_drop x.from (settled_of x.settled x.player) v y)
+  | inr y ↦ all_listed (λ u. u < n) (settled_of x.settled t.player) (a.placed.below t.player) v (in_drop t.from (settled_of x.settled t.player) v y)
 ]
 
 less_active : (a l b : Bool) → (b ≡ true → l ≡ false) → ((a && not b) || l) ≡ ((a || l) && not b)
@@ -47,7 +48,7 @@ less_settled false l b f = refl
 less_settled true l false f = refl
 
 -- an active vertex is active no more
-module _ {n : ℕ} {x : Parts} (a : AreParts n x) (v : ℕ) (i : In (active_of x.subgame) v) where
+module _ {n : ℕ} {x : Parts} (t : Tail) (a : AreParts n x) (v : ℕ) (i : In (active_of x.subgame) v) where
   abbrev y : Parts
   y = record x { subgame = record x.subgame { active = slice_set x.subgame.active v false } }
 
@@ -64,41 +65,39 @@ module _ {n : ℕ} {x : Parts} (a : AreParts n x) (v : ℕ) (i : In (active_of x
     apart = λ p w j. false_from_ne_true (active_of y.subgame w) (λ z. no_both (was w z) (a.apart p w j));
   }
 
-  pub unset_free : (w : ℕ) → free_of y w ≡ without (free_of x) (λ u. v == u) w
-  unset_free w = free_is unset_parts w ∙ (ap (λ b. b || listed (rest_of x) w) (now w)
-      ∙ (less_active (active_of x.subgame w) (listed (rest_of x) w) (v == w)
-      (λ e. false_from_ne_true (listed (rest_of x) w) (λ z. no_both (subst (In (active_of x.subgame)) (eqb-true v w e) i)
-      (a.apart x.player w (in_drop x.from (settled_of x.settled x.player) w z))))
-      ∙ ap (λ b. b && not (v == w)) (sym (free_is a w))))
+  pub unset_free : (w : ℕ) → free_of t y w ≡ without (free_of t x) (λ u. v == u) w
+  unset_free w = free_is t unset_parts w ∙ (ap (λ b. b || listed (since t x.settled) w) (now w)
+      ∙ (less_active (active_of x.subgame w) (listed (since t x.settled) w) (v == w)
+      (λ e. false_from_ne_true (listed (since t x.settled) w) (λ z. no_both (subst (In (active_of x.subgame)) (eqb-true v w e) i)
+      (a.apart t.player w (in_drop t.from (settled_of x.settled t.player) w z))))
+      ∙ ap (λ b. b && not (v == w)) (sym (free_is t a w))))
 
-  pub unset_fewer : AreFewerParts x y
+  pub unset_fewer : AreFewerParts t x y
   unset_fewer = record {
-    player = refl;
-    from = refl;
     other = refl;
     own = refl;
     active = was;
     rest = λ w j. j;
-    free = λ w m. false_from_ne_true (free_of y w) (λ z. no_both (only (free_of x w) (v == w) (sym (unset_free w) ∙ z)).0 m);
+    free = λ w m. false_from_ne_true (free_of t y w) (λ z. no_both (only (free_of t x w) (v == w) (sym (unset_free w) ∙ z)).0 m);
   }
 
 -- a settled vertex is settled no more
-module _ {n : ℕ} {x : Parts} (a : AreParts n x) (v : ℕ) (m : active_of x.subgame v ≡ false) (i : In (listed (rest_of x)) v) (settled : Settled)
-    (placed : IsPlaced n settled) (own : IsWithout v (settled_of x.settled x.player) (settled_of settled x.player))
-    (other : settled_of settled (opponent x.player) ≡ settled_of x.settled (opponent x.player)) where
+module _ {n : ℕ} {x : Parts} (t : Tail) (a : AreParts n x) (v : ℕ) (m : active_of x.subgame v ≡ false) (i : In (listed (since t x.settled)) v) (settled : Settled)
+    (placed : IsPlaced n settled) (own : IsWithout v (settled_of x.settled t.player) (settled_of settled t.player))
+    (other : settled_of settled (opponent t.player) ≡ settled_of x.settled (opponent t.player)) where
   abbrev z : Parts
   z = record x { settled = settled }
 
-  rest_now : (w : ℕ) → listed (rest_of z) w ≡ (listed (rest_of x) w && not (v == w))
-  rest_now w = own.from x.from w i
+  rest_now : (w : ℕ) → listed (since t z.settled) w ≡ (listed (since t x.settled) w && not (v == w))
+  rest_now w = own.from t.from w i
 
-  rest_was : (w : ℕ) → In (listed (rest_of z)) w → In (listed (rest_of x)) w
-  rest_was w j = (only (listed (rest_of x) w) (v == w) (sym (rest_now w) ∙ j)).0
+  rest_was : (w : ℕ) → In (listed (since t z.settled)) w → In (listed (since t x.settled)) w
+  rest_was w j = (only (listed (since t x.settled) w) (v == w) (sym (rest_now w) ∙ j)).0
 
   was_settled : (p : Player) (w : ℕ) → In (listed (settled_of settled p)) w → In (listed (settled_of x.settled p)) w
-  was_settled p w j = elim (own_or_other p x.player) [
-    | inl e ↦ subst (λ q. In (listed (settled_of x.settled q)) w) (sym e) (only (listed (settled_of x.settled x.player) w) (v == w)
-        (sym (own.from 0 w (in_drop x.from (settled_of x.settled x.player) v i)) ∙ subst (λ q. In (listed (settled_of settled q)) w) e j)).0
+  was_settled p w j = elim (own_or_other p t.player) [
+    | inl e ↦ subst (λ q. In (listed (settled_of x.settled q)) w) (sym e) (only (listed (settled_of x.settled t.player) w) (v == w)
+        (sym (own.from 0 w (in_drop t.from (settled_of x.settled t.player) v i)) ∙ subst (λ q. In (listed (settled_of settled q)) w) e j)).0
     | inr e ↦ subst (λ q. In (listed (settled_of x.settled q)) w) (sym e) (subst (λ xs. In (listed xs) w) other
         (subst (λ q. In (listed (settled_of settled q)) w) e j))
   ]
@@ -106,20 +105,18 @@ module _ {n : ℕ} {x : Parts} (a : AreParts n x) (v : ℕ) (m : active_of x.sub
   pub unsettled_parts : AreParts n z
   unsettled_parts = record { sizes = a.sizes; placed = placed; apart = λ p w j. a.apart p w (was_settled p w j) }
 
-  pub unsettled_free : (w : ℕ) → free_of z w ≡ without (free_of x) (λ u. v == u) w
-  unsettled_free w = free_is unsettled_parts w ∙ (ap (λ b. active_of x.subgame w || b) (rest_now w)
-      ∙ (less_settled (active_of x.subgame w) (listed (rest_of x) w) (v == w) (λ e. subst (λ u. active_of x.subgame u ≡ false) (eqb-true v w e) m)
-      ∙ ap (λ b. b && not (v == w)) (sym (free_is a w))))
+  pub unsettled_free : (w : ℕ) → free_of t z w ≡ without (free_of t x) (λ u. v == u) w
+  unsettled_free w = free_is t unsettled_parts w ∙ (ap (λ b. active_of x.subgame w || b) (rest_now w)
+      ∙ (less_settled (active_of x.subgame w) (listed (since t x.settled) w) (v == w) (λ e. subst (λ u. active_of x.subgame u ≡ false) (eqb-true v w e) m)
+      ∙ ap (λ b. b && not (v == w)) (sym (free_is t a w))))
 
-  pub unsettled_fewer : AreFewerParts x z
+  pub unsettled_fewer : AreFewerParts t x z
   unsettled_fewer = record {
-    player = refl;
-    from = refl;
     other = other;
-    own = own.before x.from i;
+    own = own.before t.from i;
     active = λ w j. j;
     rest = rest_was;
-    free = λ w k. false_from_ne_true (free_of z w) (λ j. no_both (only (free_of x w) (v == w) (sym (unsettled_free w) ∙ j)).0 k);
+    free = λ w k. false_from_ne_true (free_of t z w) (λ j. no_both (only (free_of t x w) (v == w) (sym (unsettled_free w) ∙ j)).0 k);
   }
 
 -- a row leads to the list also where others stand before it that are not free
@@ -155,5 +152,5 @@ grown_behind_one {g} {p} {F} {F'} {before} {old} {mid} {new} {prefix} first list
       leads = leads_behind first list apart i leads;
     })))
 
-pub not_listed : {n : ℕ} {x : Parts} {list : List ℕ} → FitParts n x list → (v : ℕ) → In (free_of x) v → listed list v ≡ false
-not_listed {n} {x} {list} f v i = false_from_ne_true (listed list v) (λ y. no_both i (f.apart v y))
+pub not_listed : {n : ℕ} {t : Tail} {x : Parts} {list : List ℕ} → FitParts n t x list → (v : ℕ) → In (free_of t x) v → listed list v ≡ false
+not_listed {n} {t} {x} {list} f v i = false_from_ne_true (listed list v) (λ y. no_both i (f.apart v y))

@@ -5,6 +5,7 @@ use Rattle.pg_finders.proofs.Common.{append_assoc, Option, None, Some, IfSome, I
 use Rattle.pg_finders.proofs.Common.{active_of, IsGiven, Plan, SameAt, winners_of, choices_of}
 use Rattle.pg_finders.specs.Part.{IsOut}
 use Rattle.pg_finders.specs.declared.recursion.parts.Parts.{Parts}
+use Rattle.pg_finders.specs.declared.recursion.settled.Tail.{Tail}
 use Rattle.pg_finders.specs.private.recursion.Parts.{free_of, AreParts, GivesActive}
 use Rattle.std.proofs.lemmas.List.{take_more}
 use Rattle.pg_finders.proofs.Sets.{no_both}
@@ -13,29 +14,26 @@ use Rattle.pg_finders.proofs.recursion.FilteredLists.{filter_takes, filter_passe
 use Rattle.pg_finders.proofs.recursion.BegunSubgame.{given_more}
 
 -- the parts have the same free vertices
-pub free_same : (x y : Parts) → y.subgame.active ≡ x.subgame.active → y.settled ≡ x.settled → y.player ≡ x.player → y.from ≡ x.from → (v : ℕ)
-    → free_of y v ≡ free_of x v
-free_same x y active settled player from v = rw (active, settled, player, from) refl
+pub free_same : (t : Tail) (x y : Parts) → y.subgame.active ≡ x.subgame.active → y.settled ≡ x.settled → (v : ℕ) → free_of t y v ≡ free_of t x v
+free_same t x y active settled v = rw (active, settled) refl
 
 -- a vertex that has a free successor has one as its choice
-pub chosen_free : (g : Graph) (x y : Parts) (v : ℕ) (choice : Option ℕ) → ((w : ℕ) → free_of y w ≡ free_of x w)
-    → IfSome choice (λ w. HasEdge g v w × In (free_of y) w) → (IsNone choice → IsOut g (free_of y) v) → ((w : ℕ) × HasEdge g v w × In (free_of x) w)
-    → (w : ℕ) × (choice ≡ Some w) × HasEdge g v w × In (free_of x) w
-chosen_free g x y v None same found none leads = absurd (none refl leads.0 leads.1 (same leads.0 ∙ leads.2))
-chosen_free g x y v (Some w) same found none leads = (w, refl, found.0, sym (same w) ∙ found.1)
+pub chosen_free : (g : Graph) (t : Tail) (x y : Parts) (v : ℕ) (choice : Option ℕ) → ((w : ℕ) → free_of t y w ≡ free_of t x w)
+    → IfSome choice (λ w. HasEdge g v w × In (free_of t y) w) → (IsNone choice → IsOut g (free_of t y) v) → ((w : ℕ) × HasEdge g v w × In (free_of t x) w)
+    → (w : ℕ) × (choice ≡ Some w) × HasEdge g v w × In (free_of t x) w
+chosen_free g t x y v None same found none leads = absurd (none refl leads.0 leads.1 (same leads.0 ∙ leads.2))
+chosen_free g t x y v (Some w) same found none leads = (w, refl, found.0, sym (same w) ∙ found.1)
 
 -- the vertex is given to the player, with a free successor where it has one
-pub record WritesChoice (g : Graph) (v : ℕ) (choice : Option ℕ) (y z : Parts) : Type 0 where
+pub record WritesChoice (g : Graph) (t : Tail) (v : ℕ) (choice : Option ℕ) (y z : Parts) : Type 0 where
   pub parts : AreParts (length g) z
-  pub found : IfSome choice (λ w. HasEdge g v w × In (free_of y) w)
-  pub none : IsNone choice → IsOut g (free_of y) v
-  pub winner : winners_of z.subgame.plan v ≡ y.player
+  pub found : IfSome choice (λ w. HasEdge g v w × In (free_of t y) w)
+  pub none : IsNone choice → IsOut g (free_of t y) v
+  pub winner : winners_of z.subgame.plan v ≡ t.player
   pub choice_is : choices_of z.subgame.plan v ≡ choice
   pub elsewhere : (w : ℕ) → w ≢ v → SameAt y.subgame.plan z.subgame.plan w
   pub active : z.subgame.active ≡ y.subgame.active
   pub settled : z.settled ≡ y.settled
-  pub player : z.player ≡ y.player
-  pub from : z.from ≡ y.from
 
 -- what is written does not change the sizes
 pub written_parts : {n : ℕ} (y : Parts) (plan : Plan) → AreParts n y → length plan.winners.items ≡ length y.subgame.plan.winners.items
@@ -51,8 +49,8 @@ written_parts y plan a winners choices = record {
 }
 
 -- the active ones of the first i are given
-module _ {g : Graph} (vs : List ℕ) (i : ℕ) {x y : Parts} {list list' : List ℕ} (l : i < length vs)
-    (h : GivesActive g (take i vs) x y list list') where
+module _ {g : Graph} {t : Tail} (vs : List ℕ) (i : ℕ) {x y : Parts} {list list' : List ℕ} (l : i < length vs)
+    (h : GivesActive g t (take i vs) x y list list') where
   abbrev v : ℕ
   v = slice_index_or vs i 0
 
@@ -63,7 +61,7 @@ module _ {g : Graph} (vs : List ℕ) (i : ℕ) {x y : Parts} {list list' : List 
   ]
 
   -- the next one is not active
-  pub gives_not : active_of x.subgame v ≡ false → GivesActive g (take (i + 1) vs) x y list list'
+  pub gives_not : active_of x.subgame v ≡ false → GivesActive g t (take (i + 1) vs) x y list list'
   gives_not n = record {
     parts = h.parts;
     list_is = h.list_is ∙ ap (λ ys. list ++ ys) (sym (filter_passes (λ u. active_of x.subgame u) vs i l n));
@@ -74,34 +72,30 @@ module _ {g : Graph} (vs : List ℕ) (i : ℕ) {x y : Parts} {list list' : List 
     same = h.same;
     active = h.active;
     settled = h.settled;
-    player = h.player;
-    from = h.from;
   }
 
   -- the next one is given too
-  pub gives_one : (z : Parts) (choice : Option ℕ) → active_of x.subgame v ≡ true → ((w : ℕ) × HasEdge g v w × In (free_of x) w)
-      → WritesChoice g v choice y z → GivesActive g (take (i + 1) vs) x z list (list' ++ v ∷ [])
-  gives_one z choice is leads t = record {
-    parts = t.parts;
+  pub gives_one : (z : Parts) (choice : Option ℕ) → active_of x.subgame v ≡ true → ((w : ℕ) × HasEdge g v w × In (free_of t x) w)
+      → WritesChoice g t v choice y z → GivesActive g t (take (i + 1) vs) x z list (list' ++ v ∷ [])
+  gives_one z choice is leads e = record {
+    parts = e.parts;
     list_is = ap (λ ys. ys ++ v ∷ []) h.list_is ∙ (append_assoc list _ (v ∷ [])
         ∙ ap (λ ys. list ++ ys) (sym (filter_takes (λ u. active_of x.subgame u) vs i l is)));
     given = λ u j a. elim (either u j) [
-      | inl b ↦ given_more g (free_of x) x.player y.subgame.plan z.subgame.plan v here t.elsewhere u (h.given u b a)
-      | inr e ↦ subst (λ w. IsGiven g (free_of x) x.player z.subgame.plan w) e here
+      | inl b ↦ given_more g (free_of t x) t.player y.subgame.plan z.subgame.plan v here e.elsewhere u (h.given u b a)
+      | inr q ↦ subst (λ w. IsGiven g (free_of t x) t.player z.subgame.plan w) q here
     ];
     same = λ u n. (
         let a = h.same u n in
-        let b = t.elsewhere u (λ e. no_both is (subst (λ w. active_of x.subgame w ≡ false) e n)) in
+        let b = e.elsewhere u (λ q. no_both is (subst (λ w. active_of x.subgame w ≡ false) q n)) in
         (b.0 ∙ a.0, b.1 ∙ a.1));
-    active = t.active ∙ h.active;
-    settled = t.settled ∙ h.settled;
-    player = t.player ∙ h.player;
-    from = t.from ∙ h.from;
+    active = e.active ∙ h.active;
+    settled = e.settled ∙ h.settled;
   }
     where
-      here : IsGiven g (free_of x) x.player z.subgame.plan v
+      here : IsGiven g (free_of t x) t.player z.subgame.plan v
       here = (
-        t.winner ∙ h.player,
-        (let q = chosen_free g x y v choice (free_same x y h.active h.settled h.player h.from) t.found t.none leads in
-            (q.0, t.choice_is ∙ q.1, q.2, q.3)),
+        e.winner,
+        (let q = chosen_free g t x y v choice (free_same t x y h.active h.settled) e.found e.none leads in
+            (q.0, e.choice_is ∙ q.1, q.2, q.3)),
       )

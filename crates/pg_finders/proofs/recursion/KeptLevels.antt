@@ -7,7 +7,8 @@ use Rattle.pg_finders.proofs.Common.{level_at, AreApart, AreOpenLevels, map, ste
 use Rattle.std.proofs.Math.Bool.{or-false}
 use Rattle.pg_finders.proofs.Sets.{minus_more, no_both}
 use Rattle.pg_finders.proofs.recursion.ListsAsSets.{listed-append, prefix_or_rest, once_join, apart_from}
-use Rattle.pg_finders.proofs.recursion.WaitingLevels.{Agree, waits_on, steps_grow}
+use Rattle.pg_finders.proofs.recursion.WaitingLevels.{Agree, waits_on}
+use Rattle.pg_finders.proofs.Steps.{steps_grow}
 use Rattle.pg_finders.proofs.recursion.SharedLists.{pick, picked, pick_apart, pick_either, gone_settled, gone_aside, gone_cases, part_of, linked_more, levels_same}
 use Rattle.pg_finders.proofs.recursion.StepBounds.{work_begin, work_finish}
 
@@ -105,15 +106,18 @@ module _ {g : Graph} {U A A' : VertexSet} {settled settled' : SettledLists} {set
   }
 
 -- the steps fall where a subgame is resumed: m vertices are gone before, i once it is finished, j once it is begun again, and k in the end
-pub work_resume : (n m i j k : ℕ) (frames : List Frame) (f f' : Frame) → f.even + f.odd + f.set_aside < i → f'.even + f'.odd + f'.set_aside ≡ i → i < j
-    → j ≤ k → k ≤ n → steps (n - k) + steps_left n (frames ++ f' ∷ []) < steps (n - m) + steps_left n (frames ++ f ∷ [])
-work_resume n m i j k frames f f' a b c d e =
-    let x = work_finish n m i frames f a (omega (arith, c, d, e)) in
-    let y = work_begin n i j frames f' b c (omega (arith, d, e)) in
-    let z = steps_grow (n - k) (n - j) (omega (arith, d)) in
+pub work_resume : (d n m i j k : ℕ) (frames : List Frame) (f f' : Frame) → length frames < d → f.even + f.odd + f.set_aside < i
+    → f'.even + f'.odd + f'.set_aside ≡ i → i < j → j ≤ k → k ≤ n
+    → steps (d - length (frames ++ f' ∷ [])) (n - k) + steps_left d n (frames ++ f' ∷ [])
+    < steps (d - length (frames ++ f ∷ [])) (n - m) + steps_left d n (frames ++ f ∷ [])
+work_resume d n m i j k frames f f' some a b c e h =
+    let x = work_finish d n m i frames f a (omega (arith, c, e, h)) in
+    let y = work_begin d n i j frames f' some b c (omega (arith, e, h)) in
+    let deep = d - length (frames ++ f' ∷ []) in
+    let z = steps_grow deep deep (n - k) (n - j) (omega arith) (omega (arith, e)) in
     omega (arith, x, y, z)
 
 -- and where no top is left
-pub work_drop : (n m i k : ℕ) (frames : List Frame) (f : Frame) → f.even + f.odd + f.set_aside < i → i ≤ k → k ≤ n
-    → steps (n - k) + steps_left n frames < steps (n - m) + steps_left n (frames ++ f ∷ [])
-work_drop n m i k frames f a d e = work_finish n m k frames f (omega (arith, a, d)) e
+pub work_drop : (d n m i k : ℕ) (frames : List Frame) (f : Frame) → f.even + f.odd + f.set_aside < i → i ≤ k → k ≤ n
+    → steps (d - length frames) (n - k) + steps_left d n frames < steps (d - length (frames ++ f ∷ [])) (n - m) + steps_left d n (frames ++ f ∷ [])
+work_drop d n m i k frames f a c e = work_finish d n m k frames f (omega (arith, a, c)) e

@@ -4,19 +4,19 @@ use Rattle.pg_finders.proofs.Common.{refl, sym, ◌∙◌, ap, subst, arith, len
 use Rattle.pg_finders.proofs.Common.{false_from_ne_true, cases_lt, and-true, map-append, take-append-le, take_all, common_steps, Player, Even, Odd, opponent, Graph}
 use Rattle.pg_finders.proofs.Common.{VertexSet, In, members, no_vertices, Choices, same_is, is_same, Frame, Winners, IsSolvedInside, IsSolvedTo, IsBegun}
 use Rattle.pg_finders.proofs.Common.{won_inside, Level, AreLevels, listed, Once, Apart, SettledLists, how_many, gone, part, count_at, prefix, level_at, Linked}
-use Rattle.pg_finders.proofs.Common.{AreApart, AreOpenLevels, IsAtEnd, how_many_gone, active_of, settled_of, winners_of, choices_of}
+use Rattle.pg_finders.proofs.Common.{AreApart, AreOpenLevels, IsAtEnd, how_many_gone, active_of, settled_of, winners_of, choices_of, priority_count}
 use Rattle.pg_finders.specs.declared.recursion.Solver.{Solver}
 use Rattle.pg_finders.proofs.Common.{vec_len, both_ways}
 use Rattle.std.proofs.Common.{Global, Vec}
-use Rattle.std.proofs.Common.{length-take}
-use Rattle.std.proofs.lemmas.List.{length_push}
+use Rattle.std.proofs.Common.{length-take, ltb-true}
+use Rattle.std.proofs.lemmas.List.{length_push, length-map}
 use Rattle.std.proofs.Math.Bool.{or_assoc}
 use Rattle.std.proofs.Math.Seq.{take-append_seam, take-append-add, drop-append_seam}
 use Rattle.pg_finders.proofs.Sets.{minus, minus_both, minus_more, no_both, unless}
 use Rattle.pg_finders.proofs.recursion.ListsAsSets.{listed-append, prefix_or_rest, in_take, in_drop, take_or_drop, once_join, once_take, take_apart, apart_from}
 use Rattle.pg_finders.proofs.recursion.ListsAsSets.{once_fits, missing}
 use Rattle.pg_finders.proofs.SolvedSubgames.{solved_none, solved_whole, IsSolvedTo-subst}
-use Rattle.pg_finders.proofs.recursion.WaitingLevels.{Agree, waits_on, waits_push, waits_pop}
+use Rattle.pg_finders.proofs.recursion.WaitingLevels.{Agree, waits_on, waits_push, waits_pop, waits_count}
 use Rattle.pg_finders.proofs.recursion.SharedLists.{pick, picked, pick_apart, pick_either, gone_settled, gone_aside}
 use Rattle.pg_finders.proofs.recursion.SharedLists.{gone_cases, gone_none, part_of, in_part, linked_more, linked_push, linked_pop, levels_same}
 
@@ -130,6 +130,15 @@ module _ {g : Graph} {U active active' : VertexSet} {settled : SettledLists} {se
   levels_now : map (level_at U settled (set_aside ++ added)) (frames ++ f ∷ [])
       ≡ map (level_at U settled set_aside) frames ++ record { inside = active; tops = Tops; left = active'; player = f.player } ∷ []
   levels_now = search (rules, map-append, stops_now, level_now)
+
+  -- the waiting levels and the active part differ in their greatest priorities
+  pub begins_deeper : length frames < priority_count g U
+  begins_deeper =
+      let t = b.begun.some in
+      let i = b.begun.attracted.inside t.0 (b.begun.attracted.target t.0 t.1) in
+      let c = waits_count g U (map (level_at U settled set_aside) frames) active won s b.open_levels.waits t.0 i
+      (ltb-true t.0 (length g) (b.begun.subgame.vertices t.0 i)) in
+      omega (arith, c, length-map frames (level_at U settled set_aside))
 
   pub open_levels_begin : AreOpenLevels g U active' settled (set_aside ++ added) (frames ++ f ∷ []) won' s'
   open_levels_begin = record {

@@ -3,7 +3,7 @@ use Rattle.pg_finders.proofs.Common.{◌≡◌, ◌≢◌, ℕ, ◌+◌, ◌-◌
 use Rattle.pg_finders.proofs.Common.{refl, sym, ◌∙◌, ap, subst, arith, append_assoc, length-append, fun_ext, append-nil, ◌==◌, eq-eqb, or_left, or_right, or_cases}
 use Rattle.pg_finders.proofs.Common.{and-true, cases_Bool, false_from_ne_true, Player, Even, Odd, opponent, Graph, HasEdge, owner_of, VertexSet, In, members, union, without}
 use Rattle.pg_finders.proofs.Common.{IsSubgame, own_or_other, Some, Plan, Frame, listed, Once, SettledLists, winners_of, choices_of, SameAt, how_many, IsBegun, IsSolvedInside, IsSolvedTo}
-use Rattle.pg_finders.proofs.Common.{IsAttracted, won_inside, WinsOn, place, HasTaken, AttractsNoActive, count_at, prefix, level_at, AreOpenLevels, gone, how_many_gone, steps, steps_left}
+use Rattle.pg_finders.proofs.Common.{IsAttracted, won_inside, WinsOn, place, HasTaken, AttractsNoActive, count_at, prefix, level_at, AreOpenLevels, gone, how_many_gone, priority_count, steps, steps_left}
 use Rattle.pg_finders.proofs.Common.{both_ways}
 use Rattle.std.proofs.Common.{length-drop, length-take}
 use Rattle.std.proofs.lemmas.List.{append_cancel_left}
@@ -15,7 +15,7 @@ use Rattle.pg_finders.proofs.KeptSubgames.{attracted_again, subgame_again, left_
 use Rattle.pg_finders.proofs.recursion.AttractionSteps.{grown_attracted}
 use Rattle.pg_finders.proofs.recursion.SharedLists.{cut, pick}
 use Rattle.pg_finders.proofs.recursion.LoopSteps.{Finishes, Begins, lists_fit, counts_fit, last_begun, since_inside, since_left, left_solved, won_since, finish_more}
-use Rattle.pg_finders.proofs.recursion.LoopSteps.{open_levels_begin, open_levels_finish}
+use Rattle.pg_finders.proofs.recursion.LoopSteps.{open_levels_begin, begins_deeper, open_levels_finish}
 use Rattle.pg_finders.proofs.recursion.KeptLevels.{SettlesMore, open_levels_settle, longer, work_resume, work_drop}
 
 pick_own : (p : Player) (xs ys : List ℕ) → pick p xs ys p ≡ xs
@@ -178,12 +178,12 @@ module _ {g : Graph} {U : VertexSet} {frames : List Frame} {f : Frame} {active :
   rest_subgame = left_again begun attracted again
 
   -- then it is begun again
-  begun_now : (v : ℕ) × In (listed aside) v → IsBegun g J (listed (take k aside)) R p (winners_of new) (choices_of new)
+  begun_now : (t : ℕ) × In (listed (take k aside)) t → IsBegun g J (listed (take k aside)) R p (winners_of new) (choices_of new)
   begun_now some = subst (λ Z. IsBegun g J Z R p (winners_of new) (choices_of new)) (fun_ext (λ v. sym (h.shrunk.tops v)))
       (begun_again begun attracted again
       (λ v i o. (let j : In (listed (take k aside)) v = h.shrunk.tops v ∙ i in let c = h.shrunk.chosen v j o in
       (c.0, (late v (aside_out v (in_take k aside v j))).1 ∙ c.1, c.2, c.3)))
-      (λ v i. (late v (aside_out v i)).0 ∙ h.shrunk.aside_his v i) some)
+      (λ v i. (late v (aside_out v i)).0 ∙ h.shrunk.aside_his v i) (some.0, sym (h.shrunk.tops some.0) ∙ some.1))
 
   -- what is kept is in the rest
   kept_parts : (v : ℕ) → In (listed kept) v → In (listed (since p)) v × (listed B v ≡ false)
@@ -296,8 +296,8 @@ module _ {g : Graph} {U : VertexSet} {frames : List Frame} {f : Frame} {active :
   -- Some top is left, and the subgame waits again.
   module _ (f' : Frame) (player : f'.player ≡ p) (counts : (r : Player) → count_at f' r ≡ length (between r)) (from : f'.set_aside ≡ length left_aside)
       (tops : f'.tops ≡ f'.set_aside + k) (upto : f'.upto ≡ length (left_aside ++ aside)) (some : 0 < k) where
-    some_aside : (v : ℕ) × In (listed aside) v
-    some_aside = (let l = h.shrunk.few in (_, listed_get aside 0 0 (omega (arith, l, some))))
+    some_top : (t : ℕ) × In (listed (take k aside)) t
+    some_top = (let l = h.shrunk.few in (_, listed_get (take k aside) 0 0 (omega (arith, l, some, length-take k aside))))
 
     first : f'.tops - f'.set_aside ≡ k
     first = omega (arith, tops)
@@ -309,7 +309,7 @@ module _ {g : Graph} {U : VertexSet} {frames : List Frame} {f : Frame} {active :
       once = h.shrunk.aside_once;
       left = λ v. refl;
       begun = subst (λ (r : Player). IsBegun g J (listed (take (f'.tops - f'.set_aside) aside)) R r (winners_of new) (choices_of new)) (sym player)
-          (subst (λ n. IsBegun g J (listed (take n aside)) R p (winners_of new) (choices_of new)) (sym first) (begun_now some_aside));
+          (subst (λ n. IsBegun g J (listed (take n aside)) R p (winners_of new) (choices_of new)) (sym first) (begun_now some_top));
       same = λ v n. (refl, refl);
       counts = counts;
       from = from;
@@ -320,16 +320,17 @@ module _ {g : Graph} {U : VertexSet} {frames : List Frame} {f : Frame} {active :
     pub resumed_levels : AreOpenLevels g U Q settled' (left_aside ++ aside) (frames ++ f' ∷ []) (winners_of new) (choices_of new)
     resumed_levels = open_levels_settle (open_levels_begin begins) settles
 
-    pub resumed_fewer : (mask : List Bool) → members mask ≡ U → (m : ℕ) → steps (how_many mask - how_many_gone settled' (left_aside ++ aside))
-        + steps_left (how_many mask) (frames ++ f' ∷ []) < steps (how_many mask - m) + steps_left (how_many mask) (frames ++ f ∷ [])
+    pub resumed_fewer : (mask : List Bool) → members mask ≡ U → (m : ℕ) → let d = priority_count g U in let n = how_many mask in
+        steps (d - length (frames ++ f' ∷ [])) (n - how_many_gone settled' (left_aside ++ aside)) + steps_left d n (frames ++ f' ∷ [])
+        < steps (d - length (frames ++ f ∷ [])) (n - m) + steps_left d n (frames ++ f ∷ [])
     resumed_fewer mask same m =
         let even : f'.even ≡ length (between Even) = counts Even in
         let odd : f'.odd ≡ length (between Odd) = counts Odd in
         let more_even = longer (open_levels_begin begins) settles Even in
         let more_odd = longer (open_levels_begin begins) settles Odd in
         let l = h.shrunk.few in
-        work_resume (how_many mask) m (how_many_gone between left_aside) (how_many_gone between (left_aside ++ aside)) (how_many_gone settled' (left_aside ++ aside))
-        frames f f' finished_more (omega (arith, even, odd, from)) (omega (arith, l, some, length-append left_aside aside)) (omega (arith, more_even, more_odd))
+        work_resume (priority_count g U) (how_many mask) m (how_many_gone between left_aside) (how_many_gone between (left_aside ++ aside)) (how_many_gone settled' (left_aside ++ aside))
+        frames f f' (begins_deeper begins) finished_more (omega (arith, even, odd, from)) (omega (arith, l, some, length-append left_aside aside)) (omega (arith, more_even, more_odd))
         (lists_fit mask resumed_levels.apart (subst (λ Z. (v : ℕ) → In (gone settled' (left_aside ++ aside)) v → In Z v) (sym same) resumed_levels.listed_inside))
 
   -- No top is left: nothing is set aside.
@@ -365,11 +366,12 @@ module _ {g : Graph} {U : VertexSet} {frames : List Frame} {f : Frame} {active :
     pub dropped_levels : AreOpenLevels g U Q settled' left_aside frames (winners_of new) (choices_of new)
     dropped_levels = open_levels_settle finished dropped
 
-    pub dropped_fewer : (mask : List Bool) → members mask ≡ U → (m : ℕ) → steps (how_many mask - how_many_gone settled' left_aside) + steps_left (how_many mask) frames
-        < steps (how_many mask - m) + steps_left (how_many mask) (frames ++ f ∷ [])
+    pub dropped_fewer : (mask : List Bool) → members mask ≡ U → (m : ℕ) → let d = priority_count g U in let n = how_many mask in
+        steps (d - length frames) (n - how_many_gone settled' left_aside) + steps_left d n frames
+        < steps (d - length (frames ++ f ∷ [])) (n - m) + steps_left d n (frames ++ f ∷ [])
     dropped_fewer mask same m =
         let more_even = longer finished dropped Even in
         let more_odd = longer finished dropped Odd in
-        work_drop (how_many mask) m (how_many_gone between left_aside) (how_many_gone settled' left_aside) frames f finished_more
+        work_drop (priority_count g U) (how_many mask) m (how_many_gone between left_aside) (how_many_gone settled' left_aside) frames f finished_more
         (omega (arith, more_even, more_odd))
         (lists_fit mask dropped_levels.apart (subst (λ Z. (v : ℕ) → In (gone settled' left_aside) v → In Z v) (sym same) dropped_levels.listed_inside))

@@ -1,11 +1,12 @@
 -- The solver where the last subgame is taken up again: the levels, and the steps that are left.
 use Rattle.pg_finders.proofs.Common.{◌≡◌, ◌≢◌, ℕ, ◌<◌, ◌≤◌, Bool, inl, inr, List, [], ◌∷◌, ◌++◌, length, take, drop, refl, sym, ◌∙◌, ap, subst}
 use Rattle.pg_finders.proofs.Common.{VertexSet, arith, take-append-drop, Player, Even, Odd, opponent, Graph, In, Within, members, Frame, listed, Once, SettledLists, settled_of}
-use Rattle.pg_finders.proofs.Common.{winners_of, choices_of, how_many, active_of, AreVertices, IsOrder, count_at, AreOpenLevels, IsAtEnd, IsSolverState, how_many_gone, work}
+use Rattle.pg_finders.proofs.Common.{winners_of, choices_of, active_of, AreVertices, IsOrder, count_at, AreOpenLevels, IsAtEnd, IsSolverState, how_many_gone, work}
 use Rattle.std.proofs.Common.{length-take}
 use Rattle.pg_finders.specs.declared.recursion.Solver.{Solver}
 use Rattle.pg_finders.specs.declared.recursion.order.Order.{Order}
 use Rattle.pg_finders.specs.private.recursion.Parts.{AreParts}
+use Rattle.pg_finders.specs.private.recursion.OpenLevels.{tail_at}
 use Rattle.pg_finders.specs.private.recursion.Shrunk.{Shrinks, WaitsAgain, WinsBack, KeepsLists, count_again, frame_of}
 use Rattle.pg_finders.proofs.recursion.AttractionSteps.{grown_active}
 use Rattle.pg_finders.proofs.recursion.ListsAsSets.{once_drop}
@@ -56,7 +57,7 @@ pub record IsResumed (g : Graph) (mask : List Bool) (f : Frame) (x x1 x2 x3 : So
   pub some : length (settled_of x.parts.settled (opponent f.player)) ≢ count_at f (opponent f.player)
   pub shrinks : Shrinks g (members mask) f x x1 k
   pub waits : WaitsAgain f k x1 x2
-  pub wins : WinsBack g f.player (count_at f f.player) x2.parts x3.parts
+  pub wins : WinsBack g (tail_at f f.player) x2.parts x3.parts
   pub parts : AreParts (length g) x3.parts
   pub same : KeepsLists x2 x3
 
@@ -73,8 +74,8 @@ module _ {g : Graph} {mask : List Bool} {f : Frame} {x x1 x2 x3 : Solver} {k : �
   waited : SameParts x1 x2
   waited = after_wait f k x1 x2 h.waits
 
-  wins : WinsBack g p (count_at f p) x1.parts x3.parts
-  wins = subst (λ y. WinsBack g p (count_at f p) y x3.parts) waited.parts h.wins
+  wins : WinsBack g (tail_at f p) x1.parts x3.parts
+  wins = subst (λ y. WinsBack g (tail_at f p) y x3.parts) waited.parts h.wins
 
   resumes : Resumes g (members mask) x1.frames.items f (active_of x.parts.subgame) (settled x) x.set_aside.items x.parts.subgame.plan h.shrinks.taken
       x1.list.items k kept (active_of x1.parts.subgame) x1.parts.subgame.plan wins.more (active_of x3.parts.subgame) (settled x3) x3.parts.subgame.plan
@@ -114,7 +115,7 @@ module _ {g : Graph} {mask : List Bool} {f : Frame} {x x1 x2 x3 : Solver} {k : �
 
   -- the levels as they are now, of which fewer steps are left
   now : AreOpenLevels g (members mask) (active_of x3.parts.subgame) (settled x3) x3.set_aside.items x3.frames.items (winners_of x3.parts.subgame.plan)
-      (choices_of x3.parts.subgame.plan) × (work (how_many mask) x3 < work (how_many mask) x)
+      (choices_of x3.parts.subgame.plan) × (work g mask x3 < work g mask x)
   now = elim h.waits [
     | inl a ↦ (
         let aside : x3.set_aside.items ≡ left_aside resumes = ap (λ s. s.items) (h.same.set_aside ∙ ap (λ s. s.set_aside) a.1) ∙ h.shrinks.set_aside in
@@ -132,7 +133,7 @@ module _ {g : Graph} {mask : List Bool} {f : Frame} {x x1 x2 x3 : Solver} {k : �
         ))
   ]
 
-  pub fewer_now : work (how_many mask) x3 < work (how_many mask) x
+  pub fewer_now : work g mask x3 < work g mask x
   fewer_now = now.1
 
   pub running_now : (order : Order) → IsOrder g (active_of x3.parts.subgame) order → IsSolverState g mask (record x3 { order = order })

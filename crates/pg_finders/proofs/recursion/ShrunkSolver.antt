@@ -1,30 +1,27 @@
 -- The solver's steps at the end of the subgame that waits last, up to where it is taken up again.
 use Rattle.pg_finders.proofs.Common.{◌≡◌, ℕ, ◌-◌, ◌+◌, ◌<◌, ◌≤◌, Bool, ◌||◌, List, [], ◌∷◌, ◌++◌, length, take, drop, All, refl, sym, ◌∙◌, ap, member_below}
 use Rattle.pg_finders.proofs.Common.{subst, arith, false_from_ne_true, Player, opponent, Graph, VertexSet, In, members, union, Frame, Level, listed, Apart}
-use Rattle.pg_finders.proofs.Common.{Once, SettledLists, settled_of, active_of, count_at, level_at, IsAtEnd}
+use Rattle.pg_finders.proofs.Common.{Once, SettledLists, settled_of, active_of, level_at, IsAtEnd}
 use Rattle.std.specs.List.{filter}
 use Rattle.std.proofs.lemmas.List.{take_rest, drop-take}
 use Rattle.std.proofs.lemmas.List.Elements.{All-filter}
 use Rattle.pg_finders.specs.declared.recursion.Solver.{Solver}
 use Rattle.pg_finders.specs.declared.recursion.parts.Parts.{Parts}
-use Rattle.pg_finders.specs.private.recursion.Plans.{HasSize}
-use Rattle.pg_finders.specs.private.recursion.Settled.{IsPlaced}
-use Rattle.pg_finders.specs.private.recursion.Parts.{AreParts, AttractsFree, BeginsAgain, HasOpened, RestsOn}
-use Rattle.pg_finders.specs.private.recursion.Shrunk.{aside_of, greatest_of, since, IsReopened, IsShrunk, Loses, Shrinks}
+use Rattle.pg_finders.specs.private.recursion.Settled.{since}
+use Rattle.pg_finders.specs.private.recursion.OpenLevels.{tail_at}
+use Rattle.pg_finders.specs.declared.recursion.settled.Tail.{Tail}
+use Rattle.pg_finders.specs.private.recursion.Parts.{AreParts, BeginsAgain, HasOpened, RestsOn}
+use Rattle.pg_finders.specs.private.recursion.Shrunk.{aside_of, greatest_of, IsReopened, Loses, Shrinks}
 use Rattle.pg_finders.proofs.Sets.{no_both}
 use Rattle.pg_finders.proofs.recursion.ListsAsSets.{in_take, in_drop, once_take, once_drop, apart_from, all_below}
 use Rattle.pg_finders.proofs.recursion.SharedLists.{gone_aside, linked_pop}
 use Rattle.pg_finders.proofs.recursion.LoopSteps.{end_levels}
 use Rattle.pg_finders.proofs.recursion.ShrunkLevels.{IsShared, end_shared}
-use Rattle.pg_finders.proofs.recursion.ShrunkParts.{player4, from4, opened_all, shrunk, lost_grows, before_same, opened_right, opened_once}
+use Rattle.pg_finders.proofs.recursion.ShrunkParts.{opened_all, shrunk, lost_grows, before_same, opened_right, opened_once}
 
 -- the same parts, where this is active
 abbrev pub with_active : Parts → List Bool → Parts
 with_active y mask = record y { subgame = record y.subgame { active = mask } }
-
-pub attracts_for : {g : Graph} {p q : Player} {m n : ℕ} {x y : Parts} {list : List ℕ} → p ≡ q → m ≡ n → AttractsFree g p m x y list
-    → AttractsFree g q n x y list
-attracts_for {g} {p} {q} {m} {n} {x} {y} {list} e d a = subst (λ r. AttractsFree g r n x y list) e (subst (λ k. AttractsFree g p k x y list) d a)
 
 module _ {g : Graph} {mask : List Bool} {x : Solver} {f : Frame} (h : IsAtEnd g mask x f) where
   abbrev set_aside : List ℕ
@@ -73,9 +70,14 @@ module _ {g : Graph} {mask : List Bool} {x : Solver} {f : Frame} (h : IsAtEnd g 
   abbrev pub level : Level
   level = level_at (members mask) settled set_aside f
 
+  abbrev pub won : Tail
+  won = tail_at f f.player
+
+  abbrev pub lost : Tail
+  lost = tail_at f (opponent f.player)
+
   abbrev pub IsFreed : Parts → Type 0
-  IsFreed y = IsReopened (length g) level aside (since f settled (opponent f.player)) (since f settled f.player) (count_at f (opponent f.player))
-      x.parts.subgame.plan y
+  IsFreed y = IsReopened (length g) level aside (since lost x.parts.settled) (since won x.parts.settled) won lost x.parts.subgame.plan y
 
   pub tops_are : {xs : List ℕ} → xs ≡ greatest_of f set_aside → (v : ℕ) → level.tops v ≡ listed xs v
   tops_are e v = sym (ap (λ ys. listed ys v) e ∙ ap (λ ys. listed ys v) greatest_is)
@@ -98,51 +100,38 @@ module _ {g : Graph} {mask : List Bool} {x : Solver} {f : Frame} (h : IsAtEnd g 
   listed_below A {before} {xs} e n d = subst (λ ys. All (λ v. v < length g) ys) (sym (e ∙ ap (λ ys. ys ++ filter (λ v. A v) xs) n))
       (All-filter (λ v. A v) (λ v. v < length g) xs (below (f.upto - f.set_aside) d refl))
 
-  pub shared : IsShared g level aside (since f settled (opponent f.player)) (since f settled f.player) x.parts.subgame.plan
-  shared = subst (λ ys. IsShared g level ys (since f settled (opponent f.player)) (since f settled f.player) x.parts.subgame.plan) (sym aside_is)
+  pub shared : IsShared g level aside (since lost x.parts.settled) (since won x.parts.settled) x.parts.subgame.plan
+  shared = subst (λ ys. IsShared g level ys (since lost x.parts.settled) (since won x.parts.settled) x.parts.subgame.plan) (sym aside_is)
       (end_shared h.before f (end_levels h) h.none)
 
   -- what is set aside is active again, and what the player won is free
-  module _ (y : Parts) (mask' : List Bool) {xs : List ℕ} (e : xs ≡ aside) (player : y.player ≡ f.player) (from : y.from ≡ count_at f f.player)
-      (subgame : y.subgame ≡ x.parts.subgame) (same : y.settled ≡ x.parts.settled) (len : length mask' ≡ length y.subgame.active)
-      (has : (v : ℕ) → members mask' v ≡ union (members y.subgame.active) (listed xs) v) where
+  module _ (mask' : List Bool) {xs : List ℕ} (e : xs ≡ aside) (len : length mask' ≡ length x.parts.subgame.active)
+      (has : (v : ℕ) → members mask' v ≡ union (members x.parts.subgame.active) (listed xs) v) where
     abbrev z : Parts
-    z = with_active y mask'
+    z = with_active x.parts mask'
 
     active_now : (v : ℕ) → active_of z.subgame v ≡ listed aside v
-    active_now v = has v ∙ (ap (λ ys. members y.subgame.active v || listed ys v) e
-        ∙ ap (λ b. b || listed aside v) (ap (λ s. active_of s v) subgame ∙ h.none v))
+    active_now v = has v ∙ (ap (λ ys. active_of x.parts.subgame v || listed ys v) e ∙ ap (λ b. b || listed aside v) (h.none v))
 
     parts_now : AreParts (length g) z
     parts_now = record {
-      sizes = record {
-        active = len ∙ (ap (λ s. length s.active) subgame ∙ h.running.sizes.active);
-        cursors = ap (λ s. length s.cursors.places.items) subgame ∙ h.running.sizes.cursors;
-        plan = subst (λ s. HasSize (length g) s.plan) (sym subgame) h.running.sizes.plan;
-      };
-      placed = subst (IsPlaced (length g)) (sym same) h.running.placed;
+      sizes = record { active = len ∙ h.running.sizes.active; cursors = h.running.sizes.cursors; plan = h.running.sizes.plan };
+      placed = h.running.placed;
       apart = λ p v i. false_from_ne_true (active_of z.subgame v) (λ a. no_both (in_aside v (sym (active_now v) ∙ a))
-          (h.running.open_levels.apart.aside_apart p v (subst (λ t. In (listed (settled_of t p)) v) same i)));
+          (h.running.open_levels.apart.aside_apart p v i));
     }
 
     pub reopened : IsFreed z
-    reopened = record {
-      parts = parts_now;
-      player = player;
-      has_won = ap (λ n. drop n (settled_of y.settled y.player)) from ∙ (ap (λ t. drop (count_at f f.player) (settled_of t y.player)) same
-          ∙ ap (λ q. drop (count_at f f.player) (settled q)) player);
-      has_lost = ap (λ t. drop (count_at f (opponent f.player)) (settled_of t (opponent f.player))) same;
-      active = active_now;
-      plan = ap (λ s. s.plan) subgame;
-    }
+    reopened = record { parts = parts_now; player = refl; other = refl; has_won = refl; has_lost = refl; active = active_now; plan = refl }
 
-  pub shrinks : {x' y : Solver} {x3 : Parts} {greatest opened before ys : List ℕ} {k to : ℕ} {q : Player} → q ≡ opponent f.player
-      → Loses g (members mask) f x y → BeginsAgain g greatest y.parts x3 x'.list.items k → AreParts (length g) x3 → greatest ≡ greatest_of f set_aside
-      → HasOpened x3 opened x'.parts x'.opened.items → opened ≡ before ++ filter (λ v. active_of x3.subgame v) ys → before ≡ [] → ys ≡ aside
-      → ((v w : ℕ) → In (union (listed (drop to (settled_of x3.settled q))) (listed x'.opened.items)) w → RestsOn g x'.parts v w → ⊥)
-      → to ≡ length (settled q) → AreParts (length g) x'.parts → x'.set_aside.items ≡ take f.set_aside y.set_aside.items
+  pub shrinks : {x' y : Solver} {x3 : Parts} {greatest opened before ys : List ℕ} {k : ℕ} {end : Tail} → end.player ≡ opponent f.player
+      → end.from ≡ length (settled end.player) → Loses g (members mask) f x y → BeginsAgain g won greatest y.parts x3 x'.list.items k
+      → AreParts (length g) x3 → greatest ≡ greatest_of f set_aside → HasOpened won x3 opened x'.parts x'.opened.items
+      → opened ≡ before ++ filter (λ v. active_of x3.subgame v) ys → before ≡ [] → ys ≡ aside
+      → ((v w : ℕ) → In (union (listed (since end x3.settled)) (listed x'.opened.items)) w → RestsOn g won x'.parts v w → ⊥)
+      → AreParts (length g) x'.parts → x'.set_aside.items ≡ take f.set_aside y.set_aside.items
       → y.frames.items ≡ x'.frames.items ++ f ∷ [] → x'.order ≡ y.order → x'.size ≡ y.size → Shrinks g (members mask) f x x' k
-  shrinks {x'} {y} {x3} {greatest} {opened} {before} {ys} {k} {to} {q} is l b parts3 tops_is c' filtered none_before ys_is rests to_is parts4 truncated
+  shrinks {x'} {y} {x3} {greatest} {opened} {before} {ys} {k} {end} is end_is l b parts3 tops_is c' filtered none_before ys_is n parts4 truncated
       frames' order size =
       let o = opponent f.player in
       let s = shared in
@@ -150,27 +139,20 @@ module _ {g : Graph} {mask : List Bool} {x : Solver} {f : Frame} (h : IsAtEnd g 
       let a = l.attracts in
       let p2 = l.parts in
       let tops = tops_are tops_is in
-      let c : HasOpened x3 (filter (λ v. active_of x3.subgame v) aside) x'.parts x'.opened.items =
-      subst (λ xs. HasOpened x3 xs x'.parts x'.opened.items) (filtered ∙ (ap (λ xs. xs ++ filter (λ v. active_of x3.subgame v) ys) none_before
+      let c : HasOpened won x3 (filter (λ v. active_of x3.subgame v) aside) x'.parts x'.opened.items =
+      subst (λ xs. HasOpened won x3 xs x'.parts x'.opened.items) (filtered ∙ (ap (λ xs. xs ++ filter (λ v. active_of x3.subgame v) ys) none_before
       ∙ ap (λ xs. filter (λ v. active_of x3.subgame v) xs) ys_is)) c' in
-      let n : (v w : ℕ) → In (union (listed (drop to (settled_of x3.settled o))) (listed x'.opened.items)) w → RestsOn g x'.parts v w → ⊥ =
-      subst (λ p. (v w : ℕ) → In (union (listed (drop to (settled_of x3.settled p))) (listed x'.opened.items)) w → RestsOn g x'.parts v w → ⊥) is rests in
-      let t : to ≡ length (settled_of l.freed.settled o) =
-      to_is ∙ (ap (λ p. length (settled p)) is ∙ ap (λ s. length (settled_of s o)) (sym l.settled)) in
+      let t : end.from ≡ length (settled_of l.freed.settled o) =
+      end_is ∙ (ap (λ p. length (settled p)) is ∙ ap (λ s. length (settled_of s o)) (sym l.settled)) in
       record {
         taken = y.list.items;
-        shrunk = subst (λ ys. IsShrunk g level (since f settled o) (since f settled f.player) x.parts.subgame.plan y.list.items x'.list.items k ys
-            (active_of x'.parts.subgame) x'.parts.subgame.plan)
-            (ap (λ m. drop m (settled_of x'.parts.settled x'.parts.player)) (from4 s r a p2 b tops c n t ∙ l.from)
-            ∙ ap (λ p. drop (count_at f f.player) (settled_of x'.parts.settled p)) (player4 s r a p2 b tops c n t))
-            (shrunk s r a p2 b tops c n t);
-        lost = lost_grows s r a p2 b tops c n t ∙ ap (λ u. settled_of u o ++ y.list.items) l.settled;
-        before = subst (λ m. take m (settled_of x'.parts.settled f.player) ≡ take m (settled f.player)) l.from
-            (before_same s r a p2 b tops c n t ∙ ap (λ u. take l.freed.from (settled_of u f.player)) l.settled);
+        shrunk = shrunk s r a p2 b tops c n is t;
+        lost = lost_grows s r a p2 b tops c n is t ∙ ap (λ u. settled_of u o ++ y.list.items) l.settled;
+        before = before_same s r a p2 b tops c n is t ∙ ap (λ u. take won.from (settled_of u f.player)) l.settled;
         parts = parts4;
-        opened_right = opened_right s r a p2 b tops c n t (below (f.upto - f.set_aside) refl refl) parts3;
-        opened_once = opened_once s r a p2 b tops c n t (once (f.upto - f.set_aside) refl) parts3;
-        opened_all = opened_all s r a p2 b tops c n t;
+        opened_right = opened_right s r a p2 b tops c n is t (below (f.upto - f.set_aside) refl refl) parts3;
+        opened_once = opened_once s r a p2 b tops c n is t (once (f.upto - f.set_aside) refl) parts3;
+        opened_all = opened_all s r a p2 b tops c n is t;
         set_aside = truncated ∙ ap (λ v. take f.set_aside v.items) l.kept.set_aside;
         frames = sym (ap (λ v. v.items) l.kept.frames) ∙ frames';
         order = order ∙ l.kept.order;

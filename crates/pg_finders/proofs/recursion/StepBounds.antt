@@ -1,25 +1,38 @@
--- What a step of the solver owes besides the levels: the steps that are left.
-use Rattle.pg_finders.proofs.Common.{◌≡◌, ℕ, ◌+◌, ◌-◌, ◌<◌, ◌≤◌, List, [], ◌∷◌, ◌++◌, refl, arith, rules, Frame, steps, steps_after}
-use Rattle.pg_finders.proofs.Common.{steps_left}
-use Rattle.pg_finders.proofs.recursion.WaitingLevels.{steps_grow, steps_begin, steps_finish}
+-- What a step of the solver owes besides the levels: the steps that are left, for a whole of d priorities and n vertices.
+use Rattle.pg_finders.proofs.Common.{◌≡◌, ℕ, ◌+◌, ◌-◌, ◌<◌, ◌≤◌, List, [], ◌∷◌, ◌++◌, length, refl, ap, arith, Frame, steps, steps_after}
+use Rattle.pg_finders.proofs.Common.{steps_left, length-append}
+use Rattle.pg_finders.proofs.Steps.{steps_grow, steps_begin, steps_finish}
 
-left_push : (n : ℕ) (frames : List Frame) (f : Frame) → steps_left n (frames ++ f ∷ []) ≡ steps_left n frames + steps_after (n - (f.even + f.odd + f.set_aside))
-left_push n [] f = omega arith
-left_push n (x ∷ xs) f = let h = left_push n xs f in omega (arith, h)
+left_push : (d n : ℕ) (frames : List Frame) (f : Frame)
+    → steps_left d n (frames ++ f ∷ []) ≡ steps_left d n frames + steps_after (d - length frames) (n - (f.even + f.odd + f.set_aside))
+left_push d n [] f =
+    let m = n - (f.even + f.odd + f.set_aside) in
+    let e : steps_after (d - length {A = Frame} []) m ≡ steps_after d m = ap (λ x. steps_after x m) (omega arith) in
+    omega (arith, e)
+left_push d n (x ∷ xs) f =
+    let h = left_push (d - 1) n xs f in
+    let e : d - 1 - length xs ≡ d - length (x ∷ xs) = omega arith in
+    rw (← e) (omega (arith, h))
 
 -- the steps fall where a subgame is begun
-pub work_begin : (n m k : ℕ) (frames : List Frame) (f : Frame) → f.even + f.odd + f.set_aside ≡ m → m < k → k ≤ n
-    → steps (n - k) + steps_left n (frames ++ f ∷ []) < steps (n - m) + steps_left n frames
-work_begin n m k frames f e l h =
-    let b = steps_begin (n - m) (n - k) (omega (arith, l, h)) in
-    let d : steps_after (n - (f.even + f.odd + f.set_aside)) ≡ steps_after (n - m) = rw e refl in
-    omega (arith, left_push n frames f, b, d)
+pub work_begin : (d n m k : ℕ) (frames : List Frame) (f : Frame) → length frames < d → f.even + f.odd + f.set_aside ≡ m → m < k → k ≤ n
+    → steps (d - length (frames ++ f ∷ [])) (n - k) + steps_left d n (frames ++ f ∷ []) < steps (d - length frames) (n - m) + steps_left d n frames
+work_begin d n m k frames f some e l h =
+    let deeper = length-append frames (f ∷ []) in
+    let b = steps_begin (d - length (frames ++ f ∷ [])) (d - length frames) (n - m) (n - k) (omega (arith, some, deeper)) (omega (arith, l, h)) in
+    let same : steps_after (d - length frames) (n - (f.even + f.odd + f.set_aside)) ≡ steps_after (d - length frames) (n - m) = rw e refl in
+    omega (arith, left_push d n frames f, b, same)
 
 -- and where the last one is finished
-pub work_finish : (n m k : ℕ) (frames : List Frame) (f : Frame) → f.even + f.odd + f.set_aside < k → k ≤ n
-    → steps (n - k) + steps_left n frames < steps (n - m) + steps_left n (frames ++ f ∷ [])
-work_finish n m k frames f l h = search (rules, left_push, steps_finish, f.even, f.odd, f.set_aside)
+pub work_finish : (d n m k : ℕ) (frames : List Frame) (f : Frame) → f.even + f.odd + f.set_aside < k → k ≤ n
+    → steps (d - length frames) (n - k) + steps_left d n frames < steps (d - length (frames ++ f ∷ [])) (n - m) + steps_left d n (frames ++ f ∷ [])
+work_finish d n m k frames f l h =
+    let b = steps_finish (d - length frames) (n - (f.even + f.odd + f.set_aside)) (n - k) (omega (arith, l, h)) in
+    omega (arith, left_push d n frames f, b)
 
 -- at the start no level waits
-pub work_start : (n k m : ℕ) (frames : List Frame) → n ≤ m → frames ≡ [] → steps (n - k) + steps_left n frames ≤ steps m
-work_start n k m frames l e = rw e (let h = steps_grow (n - k) m (omega (arith, l)) in omega (arith, h))
+pub work_start : (d n k m : ℕ) (frames : List Frame) → n ≤ m → frames ≡ [] → steps (d - length frames) (n - k) + steps_left d n frames ≤ steps d m
+work_start d n k m frames l e =
+    let h = steps_grow (d - length frames) d (n - k) m (omega arith) (omega (arith, l)) in
+    let none : steps_left d n frames ≡ 0 = rw e refl in
+    omega (arith, h, none)

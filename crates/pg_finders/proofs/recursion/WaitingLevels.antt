@@ -1,8 +1,9 @@
 -- Levels that wait: one is added, one is taken away, and the last part goes on.
-use Rattle.pg_finders.proofs.Common.{◌≡◌, ℕ, zero, suc, ◌+◌, ◌<◌, ◌≤◌, false, ◌⊎◌, inl, inr, List, [], ◌∷◌, ◌++◌, sym, ◌∙◌, ap, arith, cases_Bool}
+use Rattle.pg_finders.proofs.Common.{◌≡◌, ℕ, ◌+◌, ◌<◌, ◌≤◌, false, ◌⊎◌, inl, inr, List, [], ◌∷◌, ◌++◌, sym, ◌∙◌, ap, arith, cases_Bool}
 use Rattle.pg_finders.proofs.Common.{false_from_ne_true, Player, opponent, Graph, HasEdge, owner_of, VertexSet, In, Within, without, Choices, own_or_other}
-use Rattle.pg_finders.proofs.Common.{Winners, IsSolvedTo, IsBegun, Level, AreLevels, steps, steps_after}
+use Rattle.pg_finders.proofs.Common.{Winners, IsSolvedTo, IsBegun, Level, AreLevels, length, no_vertices, ltb-true, priority_count}
 use Rattle.pg_finders.proofs.Sets.{twice, no_both, only, minus}
+use Rattle.pg_finders.proofs.Steps.{count_grow, count_more}
 use Rattle.pg_finders.proofs.SolvedSubgames.{IsSolvedTo-same, solved_append, begun_same}
 
 -- what two plans agree on
@@ -63,16 +64,19 @@ waits_away g U (f ∷ fs) R won s h v w i e u n = go (cases_Bool (f.inside w)) (
     go (inl y) (inl z) rest = rest z n
     go (inl y) (inr z) rest = begun_away h.1 v w left e (minus y z)
 
-pub steps_grow : (m n : ℕ) → m ≤ n → steps m ≤ steps n
-steps_grow zero zero l = omega arith
-steps_grow zero (suc n) l = let h = steps_grow zero n (omega arith) in omega (arith, h)
-steps_grow (suc m) zero l = absurd (omega (arith, l))
-steps_grow (suc m) (suc n) l = let h = steps_grow m n (omega (arith, l)) in omega (arith, h)
-
-pub steps_begin : (n m : ℕ) → m < n → steps m + steps_after n < steps n
-steps_begin zero m l = absurd (omega (arith, l))
-steps_begin (suc n) m l = let h = steps_grow m n (omega (arith, l)) in omega (arith, h)
-
-pub steps_finish : (n m : ℕ) → m < n → steps m < steps_after n
-steps_finish zero m l = absurd (omega (arith, l))
-steps_finish (suc n) m l = let h = steps_grow m n (omega (arith, l)) in omega (arith, h)
+-- the levels that wait and the part R have different greatest priorities
+pub waits_count : (g : Graph) (U : VertexSet) (fs : List Level) (R : VertexSet) (won : Winners) (s : Choices) → AreLevels g U fs R won s → (v : ℕ) → In R v
+    → v < length g → length fs + 1 ≤ priority_count g U
+waits_count g U [] R won s h v i l =
+    let c = count_more g {L = no_vertices} {U = U} (λ w j. absurd (cc j)) v l (h.rest v i) (λ w j. absurd (cc j)) in
+    omega (arith, c)
+waits_count g U (f ∷ fs) R won s h v i l =
+    let rest = waits_count g f.left fs R won s h.2 v i l in
+    let top = h.1.some in
+    let inside = h.1.attracted.inside top.0 (h.1.attracted.target top.0 top.1) in
+    let apart : (w : ℕ) → In f.left w → f.tops w ≡ false =
+    λ w j. false_from_ne_true (f.tops w) (λ y. no_both j (only (f.inside w) (f.left w) (h.1.attracted.target w y)).1) in
+    let lower = count_more g h.1.within top.0 (ltb-true top.0 (length g) (h.1.subgame.vertices top.0 inside)) inside
+    (λ w j e. (let low = h.1.below top.0 w top.1 (h.1.within w j) (apart w j) in absurd (omega (arith, low, e)))) in
+    let fewer = count_grow g h.0.rest in
+    omega (arith, rest, lower, fewer)

@@ -1,12 +1,14 @@
 -- What a player wins back where a subgame waits again: what he attracts of the active vertices to what he has still won. None of that is free.
-use Rattle.pg_finders.proofs.Common.{◌≡◌, ℕ, ◌≤◌, ◌&&◌, ◌||◌, not, inl, inr, List, [], ◌++◌, length, drop, refl, sym, ◌∙◌, ap}
-use Rattle.pg_finders.proofs.Common.{subst, append-nil, fun_ext}
+use Rattle.pg_finders.proofs.Common.{◌≡◌, ℕ, ◌≤◌, ◌&&◌, ◌||◌, not, inl, inr, List, [], ◌++◌, length, refl, sym, ◌∙◌, ap}
+use Rattle.pg_finders.proofs.Common.{subst, append-nil, fun_ext, arith}
 use Rattle.pg_finders.proofs.Common.{Player, opponent, Graph, VertexSet, In, Within, union, without, listed, settled_of}
 use Rattle.pg_finders.proofs.Common.{active_of, HasTaken, AttractsNoActive, false}
 use Rattle.std.proofs.Math.Bool.{or-false}
 use Rattle.std.proofs.lemmas.List.{drop_all}
 use Rattle.pg_finders.specs.declared.recursion.parts.Parts.{Parts}
-use Rattle.pg_finders.specs.private.recursion.Parts.{rest_of, free_of, AreParts, AttractsFree}
+use Rattle.pg_finders.specs.declared.recursion.settled.Tail.{Tail}
+use Rattle.pg_finders.specs.private.recursion.Settled.{since}
+use Rattle.pg_finders.specs.private.recursion.Parts.{free_of, AreParts, AttractsFree}
 use Rattle.pg_finders.specs.private.recursion.Shrunk.{WinsBack}
 use Rattle.pg_finders.proofs.Sets.{no_both, only}
 use Rattle.pg_finders.proofs.recursion.ListsAsSets.{in_drop}
@@ -14,78 +16,56 @@ use Rattle.pg_finders.proofs.recursion.AttractionSteps.{grown_none}
 use Rattle.pg_finders.proofs.recursion.FreeParts.{free_is}
 
 -- nothing is attracted to nothing
-pub wins_nothing : (g : Graph) (p : Player) (own : ℕ) (x : Parts) → length (settled_of x.settled p) ≤ own → WinsBack g p own x x
-wins_nothing g p own x l = record {
+pub wins_nothing : (g : Graph) (t : Tail) (x : Parts) → length (settled_of x.settled t.player) ≤ t.from → WinsBack g t x x
+wins_nothing g t x l = record {
   more = [];
-  grown = subst (λ ys. HasTaken g p (active_of x.subgame) x.subgame.plan (drop own (settled_of x.settled p)) (active_of x.subgame) x.subgame.plan ys)
-      (sym (append-nil (drop own (settled_of x.settled p)))) grown_none;
-  done = inl (drop_all own (settled_of x.settled p) l, refl);
-  own = sym (append-nil (settled_of x.settled p));
+  grown = subst (λ ys. HasTaken g t.player (active_of x.subgame) x.subgame.plan (since t x.settled) (active_of x.subgame) x.subgame.plan ys)
+      (sym (append-nil (since t x.settled))) grown_none;
+  done = inl (drop_all t.from (settled_of x.settled t.player) l, refl);
+  own = sym (append-nil (settled_of x.settled t.player));
   other = refl;
 }
 
--- the player's settled vertices are free from their end on, so none is
-pub record FreesNone (n : ℕ) (p : Player) (x y : Parts) : Type 0 where
-  pub parts : AreParts n x
-  pub subgame : y.subgame ≡ x.subgame
-  pub settled : y.settled ≡ x.settled
-  pub player : y.player ≡ p
-  pub from : length (settled_of x.settled p) ≤ y.from
+-- the tail `none` begins at the end of the player's list, so no settled vertex is free
+module _ {n : ℕ} {x : Parts} (none : Tail) (parts : AreParts n x) (from : none.from ≡ length (settled_of x.settled none.player)) where
+  pub no_rest : since none x.settled ≡ []
+  no_rest = drop_all none.from (settled_of x.settled none.player) (omega (arith, from))
 
-module _ {n : ℕ} {p : Player} {x y : Parts} (h : FreesNone n p x y) where
-  pub same_parts : AreParts n y
-  same_parts = rw (h.subgame, h.settled) record { sizes = h.parts.sizes; placed = h.parts.placed; apart = h.parts.apart }
+  pub free_here : (v : ℕ) → free_of none x v ≡ active_of x.subgame v
+  free_here v = free_is none parts v ∙ (ap (λ xs. active_of x.subgame v || listed xs v) no_rest ∙ or-false (active_of x.subgame v))
 
-  pub no_rest : rest_of y ≡ []
-  no_rest = rw (h.settled, h.player) (drop_all y.from (settled_of x.settled p) h.from)
-
-  free_here : (v : ℕ) → free_of y v ≡ active_of x.subgame v
-  free_here v = free_is same_parts v ∙ (ap (λ xs. active_of y.subgame v || listed xs v) no_rest
-      ∙ (or-false (active_of y.subgame v) ∙ ap (λ z. active_of z v) h.subgame))
-
-  pub settled_apart : (own v : ℕ) → In (listed (drop own (settled_of y.settled p))) v → free_of y v ≡ false
-  settled_apart own v i = free_here v ∙ h.parts.apart p v (in_drop own (settled_of x.settled p) v
-      (subst (λ z. In (listed (drop own (settled_of z p))) v) h.settled i))
+  pub settled_apart : (t : Tail) (v : ℕ) → In (listed (since t x.settled)) v → free_of none x v ≡ false
+  settled_apart t v i = free_here v ∙ parts.apart t.player v (in_drop t.from (settled_of x.settled t.player) v i)
 
   -- where all active vertices are listed, he attracts no other one
-  pub at_most_listed : (g : Graph) (U D : VertexSet) (list : List ℕ) → Within (active_of x.subgame) (listed list)
-      → AttractsNoActive g p U D (without (free_of y) (listed list))
-  at_most_listed g U D list within = record { own = λ v w i o e. absurd (never v i); other = λ v i o. absurd (never v i) }
+  pub at_most_listed : (g : Graph) (p : Player) (U D : VertexSet) (list : List ℕ) → Within (active_of x.subgame) (listed list)
+      → AttractsNoActive g p U D (without (free_of none x) (listed list))
+  at_most_listed g p U D list within = record { own = λ v w i o e. absurd (never v i); other = λ v i o. absurd (never v i) }
     where
-      never : (v : ℕ) → In (without (free_of y) (listed list)) v → ⊥
-      never v i = (let a = only (free_of y v) (listed list v) i in no_both (within v (sym (free_here v) ∙ a.0)) a.1)
+      never : (v : ℕ) → In (without (free_of none x) (listed list)) v → ⊥
+      never v i = (let a = only (free_of none x v) (listed list v) i in no_both (within v (sym (free_here v) ∙ a.0)) a.1)
 
   -- so what he has attracted of what was free, he has attracted of what was active
-  module _ {g : Graph} {own : ℕ} {z : Parts} {list : List ℕ} (a : AttractsFree g p own y z list) where
+  module _ {g : Graph} {t : Tail} {z : Parts} {list : List ℕ} (his : t.player ≡ none.player) (a : AttractsFree g none t x z list) where
     abbrev A : VertexSet
     A = active_of x.subgame
 
     abbrev D : List ℕ
-    D = drop own (settled_of y.settled p)
+    D = since t x.settled
 
-    free_are : free_of y ≡ A
+    free_are : free_of none x ≡ A
     free_are = fun_ext free_here
 
-    left_are : without (free_of y) (listed list) ≡ active_of z.subgame
-    left_are = fun_ext (λ v. ap (λ b. b && not (listed list v)) (free_here v)
-        ∙ (ap (λ s. active_of s v && not (listed list v)) (sym h.subgame) ∙ sym (a.active v)))
+    left_are : without (free_of none x) (listed list) ≡ active_of z.subgame
+    left_are = fun_ext (λ v. ap (λ b. b && not (listed list v)) (free_here v) ∙ sym (a.active v))
 
-    grown_here : HasTaken g p A x.subgame.plan D (active_of z.subgame) z.subgame.plan (D ++ list)
-    grown_here = subst (λ s. HasTaken g p A s.plan D (active_of z.subgame) z.subgame.plan (D ++ list)) h.subgame
-        (subst (λ Z. HasTaken g p A y.subgame.plan D Z z.subgame.plan (D ++ list)) left_are
-        (subst (λ Z. HasTaken g p Z y.subgame.plan D (without (free_of y) (listed list)) z.subgame.plan (D ++ list)) free_are a.grown))
-
-    done_here : AttractsNoActive g p (union A (listed D)) (listed (D ++ list)) (active_of z.subgame)
-    done_here = subst (λ Z. AttractsNoActive g p (union A (listed D)) (listed (D ++ list)) Z) left_are
-        (subst (λ Z. AttractsNoActive g p (union Z (listed D)) (listed (D ++ list)) (without (free_of y) (listed list))) free_are a.done)
-
-    pub won_back : WinsBack g p own x z
+    pub won_back : WinsBack g t x z
     won_back = record {
       more = list;
-      grown = subst (λ s. HasTaken g p A x.subgame.plan (drop own (settled_of s p)) (active_of z.subgame) z.subgame.plan
-          (drop own (settled_of s p) ++ list)) h.settled grown_here;
-      done = inr (subst (λ s. AttractsNoActive g p (union A (listed (drop own (settled_of s p)))) (listed (drop own (settled_of s p) ++ list))
-          (active_of z.subgame)) h.settled done_here);
-      own = a.settled ∙ ap (λ s. settled_of s p ++ list) h.settled;
-      other = a.own (sym h.player) ∙ ap (λ s. settled_of s (opponent p)) h.settled;
+      grown = subst (λ Z. HasTaken g t.player A x.subgame.plan D Z z.subgame.plan (D ++ list)) left_are
+          (subst (λ Z. HasTaken g t.player Z x.subgame.plan D (without (free_of none x) (listed list)) z.subgame.plan (D ++ list)) free_are a.grown);
+      done = inr (subst (λ Z. AttractsNoActive g t.player (union A (listed D)) (listed (D ++ list)) Z) left_are
+          (subst (λ Z. AttractsNoActive g t.player (union Z (listed D)) (listed (D ++ list)) (without (free_of none x) (listed list))) free_are a.done));
+      own = a.settled;
+      other = subst (λ q. settled_of z.settled (opponent q) ≡ settled_of x.settled (opponent q)) (sym his) (a.own his);
     }

@@ -47,10 +47,11 @@ pub record IsBegun (g : Graph) (U T L : VertexSet) (p : Player) (won : Winners) 
   pub within : Within L U
   pub rank : ℕ → ℕ
   pub above : (t v : ℕ) → In T t → In U v → priority_of g t ≤ priority_of g v → of_parity (priority_of g v) ≡ p
+  pub below : (t v : ℕ) → In T t → In U v → T v ≡ false → priority_of g v < priority_of g t
   pub attracted : IsAttracted g p U T (without U L) s rank
   pub chosen : (v : ℕ) → In T v → owner_of g v ≡ p → (w : ℕ) × (s v ≡ Some w) × HasEdge g v w × In U w
   pub his : (v : ℕ) → In (without U L) v → won v ≡ p
-  pub some : (v : ℕ) × In (without U L) v
+  pub some : (t : ℕ) × In T t
 
 -- among the vertices of U below i the greatest priority; none where there are no such vertices
 abbrev pub IsTop : Graph → VertexSet → ℕ → Option ℕ → Type 0

@@ -1,6 +1,7 @@
-//! The parts of a subgame that is taken up again after its opponent has won something in its rest (Lapauw, Bruynooghe and Denecker
-//! 2020). What was won stays won where nothing on which it rests has changed: the choices of its player, and the opponent's
-//! edges inside. So the time that this takes is that of what changes.
+//! Attractions during the recursion (Zielonka 1998), which take active vertices and, where a subgame is taken up again, some that are
+//! settled: each call is passed what is free. Then what was won stays won where nothing on which it rests has changed, as the crate's page
+//! explains (Lapauw, Bruynooghe and Denecker 2020). A player attracts in place: a vertex that he takes is free no more, and is listed after
+//! those that it leads to.
 
 ghost use Rattle.std.specs.Prelude.{◌≡◌, ◌==◌, ◌<◌, ◌≤◌, ◌++◌, ◌∷◌, ℕ, [], length, drop, take, All, IfOk, IfSome, IsNone, OnOk, Some, false, true, slice_index, ◌⊎◌};
 ghost use Rattle.std.specs.List.{filter};
@@ -9,280 +10,281 @@ ghost use Rattle.pg_game.specs.Player.{opponent};
 ghost use Rattle.pg_game.specs.VertexSet.{In, members, union, without};
 ghost use Rattle.pg_finders.specs.Part.{IsOut};
 ghost use Rattle.pg_finders.specs.private.recursion.Listed.{listed, Once};
-ghost use Rattle.pg_finders.specs.private.recursion.Settled.{settled_of};
+ghost use Rattle.pg_finders.specs.private.recursion.Settled.{settled_of, since};
 ghost use Rattle.pg_finders.specs.private.recursion.TakenVertices.{active_of, IsTested, AttractsNoActive};
-ghost use Rattle.pg_finders.specs.private.recursion.Parts.{rest_of, free_of, AreParts, FitParts, AreFewerParts, Puts, KeepsBehind, RestsOn, HasOpened};
+ghost use Rattle.pg_finders.specs.private.recursion.Parts.{free_of, AreParts, FitParts, AreFewerParts, Puts, KeepsBehind, RestsOn, HasOpened};
 ghost use Rattle.pg_finders.specs.private.recursion.Parts.{AttractsFree, BeginsAgain, GivesActive};
 
-use crate::recursion::settled::Settled;
+use crate::recursion::settled::{Settled, Tail};
 use crate::recursion::subgame::{Subgame, remove_all};
 use pg_dominion::{AttractorState, attract_from};
 use pg_game::{Game, Mask, Memory, Player};
 
-/// The active vertices and the settled ones. Free are the active ones, and those of the player that were settled from a place on.
+/// The active vertices and the settled ones.
 #[derive(Drop)]
 pub struct Parts {
     pub subgame: Subgame,
     pub settled: Settled,
-    player: Player,
-    from: usize,
+    /// The settled vertices that the attraction under way may take. Each call is passed what is free in it.
+    free: Tail,
 }
 
 impl Parts {
-    /// A subgame with its settled vertices. Only the active vertices are free, if none is settled.
+    /// A subgame with its settled vertices.
     pub fn new(subgame: Subgame, settled: Settled) -> Parts
         ensures subgame { result.subgame ≡ subgame }
         ensures settled { result.settled ≡ settled }
     {
+        let free = settled.end(Player::Even);
         Parts {
             subgame,
             settled,
-            player: Player::Even,
-            from: 0,
+            free,
         }
     }
 
-    /// From here on the active vertices are free, and those that are settled for the player from the place on.
-    pub fn free_from(&mut self, player: Player, from: usize)
-        ensures player { self.new.player ≡ player }
-        ensures from { self.new.from ≡ from }
-        ensures subgame { self.new.subgame ≡ self.old.subgame }
-        ensures settled { self.new.settled ≡ self.old.settled }
-    {
-        self.player = player;
-        self.from = from;
-    }
-
-    /// Settles for the player what he attracts of the free vertices to those that are settled for him from a place on, and lists it. Of
-    /// the free vertices only the given ones may lead to them. He is the opponent, or no settled vertex is free.
+    /// Parts 1 and 4 of going back: settles for the target's player what he attracts to the target, and lists it. Free are the
+    /// active vertices and those of the tail `free`, and only the given ones of them may lead to the target. Its player is the
+    /// opponent of that tail's, or that tail is empty.
     pub fn attract(
         &mut self,
         game: &Game,
-        player: Player,
-        from: usize,
+        free: Tail,
+        target: Tail,
         vertices: &[u32],
         list: &mut Vec<u32>,
     ) -> Result<(), Memory>
         requires parts { AreParts (length game.now) self.old }
-        requires side { (player ≡ opponent self.old.player) ⊎ (rest_of self.old ≡ []) }
+        requires side { (target.player ≡ opponent free.player) ⊎ (since free self.old.settled ≡ []) }
         requires below { All (λ v. v < length game.now) vertices.now }
-        requires apart { (v : ℕ) → In (listed (drop from (settled_of self.old.settled player))) v → free_of self.old v ≡ false }
-        requires from { from ≤ length (settled_of self.old.settled player) }
-        requires at_most { AttractsNoActive game.now player (union (free_of self.old) (listed (drop from (settled_of self.old.settled player))))
-            (listed (drop from (settled_of self.old.settled player))) (without (free_of self.old) (listed vertices.now)) }
+        requires apart { (v : ℕ) → In (listed (since target self.old.settled)) v → free_of free self.old v ≡ false }
+        requires from { target.from ≤ length (settled_of self.old.settled target.player) }
+        requires at_most { AttractsNoActive game.now target.player (union (free_of free self.old) (listed (since target self.old.settled)))
+            (listed (since target self.old.settled)) (without (free_of free self.old) (listed vertices.now)) }
         ensures parts { OnOk result (AreParts (length game.now) self.new) }
-        ensures attracts { OnOk result (AttractsFree game.now player from self.old self.new list.new.items) }
+        ensures attracts { OnOk result (AttractsFree game.now free target self.old self.new list.new.items) }
     {
         list.clear();
-        self.test_all(game, player, from, vertices, list)?;
-        attract_from(self, game, player, list, 0)?;
-        self.settled.add_all(player, list)?;
+        self.test_all(game, free, target, vertices, list)?;
+        self.free = free;
+        attract_from(self, game, target.player, list, 0)?;
+        self.settled.add_all(target.player, list)?;
         Ok(())
     }
 
-    /// Takes the free ones of these vertices that the player attracts at once.
+    /// Takes the free ones of these vertices that the target's player attracts at once.
     fn test_all(
         &mut self,
         game: &Game,
-        player: Player,
-        from: usize,
+        free: Tail,
+        target: Tail,
         vertices: &[u32],
         list: &mut Vec<u32>,
     ) -> Result<(), Memory>
-        requires parts { FitParts (length game.now) self.old list.old.items }
-        requires side { (player ≡ opponent self.old.player) ⊎ (rest_of self.old ≡ []) }
+        requires parts { FitParts (length game.now) free self.old list.old.items }
+        requires side { (target.player ≡ opponent free.player) ⊎ (since free self.old.settled ≡ []) }
         requires below { All (λ v. v < length game.now) vertices.now }
-        requires apart { (v : ℕ) → In (listed (drop from (settled_of self.old.settled player))) v → free_of self.old v ≡ false }
-        ensures parts { OnOk result (FitParts (length game.now) self.new list.new.items) }
-        ensures fewer { OnOk result (AreFewerParts self.old self.new) }
-        ensures target { OnOk result (drop from (settled_of self.new.settled player) ≡ drop from (settled_of self.old.settled player)) }
-        ensures grown { OnOk result (KeepsBehind game.now player (drop from (settled_of self.old.settled player)) self.old list.old.items
+        requires apart { (v : ℕ) → In (listed (since target self.old.settled)) v → free_of free self.old v ≡ false }
+        ensures parts { OnOk result (FitParts (length game.now) free self.new list.new.items) }
+        ensures fewer { OnOk result (AreFewerParts free self.old self.new) }
+        ensures target { OnOk result (since target self.new.settled ≡ since target self.old.settled) }
+        ensures grown { OnOk result (KeepsBehind game.now target.player (since target self.old.settled) free self.old list.old.items
             self.new list.new.items) }
         ensures tested { OnOk result ((v : ℕ) → In (listed vertices.now) v
-            → IsTested game.now player (listed (drop from (settled_of self.old.settled player))) (free_of self.old) (free_of self.new) v) }
+            → IsTested game.now target.player (listed (since target self.old.settled)) (free_of free self.old) (free_of free self.new) v) }
     {
         for v in vertices {
-            self.test(game, player, from, *v, list)?;
+            self.test(game, free, target, *v, list)?;
         }
         Ok(())
     }
 
-    /// Takes a free vertex for the player: one of his that leads to what is settled for him from the place on, or one of the
-    /// opponent's that leads to no free vertex.
+    /// Takes a free vertex for the target's player: one of his that leads to the target, or one of the opponent's that leads to no
+    /// free vertex.
     fn test(
         &mut self,
         game: &Game,
-        player: Player,
-        from: usize,
+        free: Tail,
+        target: Tail,
         v: u32,
         list: &mut Vec<u32>,
     ) -> Result<(), Memory>
-        requires parts { FitParts (length game.now) self.old list.old.items }
-        requires side { (player ≡ opponent self.old.player) ⊎ (rest_of self.old ≡ []) }
+        requires parts { FitParts (length game.now) free self.old list.old.items }
+        requires side { (target.player ≡ opponent free.player) ⊎ (since free self.old.settled ≡ []) }
         requires vertex { v < length game.now }
-        requires apart { (v : ℕ) → In (listed (drop from (settled_of self.old.settled player))) v → free_of self.old v ≡ false }
-        ensures parts { OnOk result (FitParts (length game.now) self.new list.new.items) }
-        ensures fewer { OnOk result (AreFewerParts self.old self.new) }
-        ensures target { OnOk result (drop from (settled_of self.new.settled player) ≡ drop from (settled_of self.old.settled player)) }
-        ensures grown { OnOk result (KeepsBehind game.now player (drop from (settled_of self.old.settled player)) self.old list.old.items
+        requires apart { (v : ℕ) → In (listed (since target self.old.settled)) v → free_of free self.old v ≡ false }
+        ensures parts { OnOk result (FitParts (length game.now) free self.new list.new.items) }
+        ensures fewer { OnOk result (AreFewerParts free self.old self.new) }
+        ensures target { OnOk result (since target self.new.settled ≡ since target self.old.settled) }
+        ensures grown { OnOk result (KeepsBehind game.now target.player (since target self.old.settled) free self.old list.old.items
             self.new list.new.items) }
-        ensures tested { OnOk result (IsTested game.now player (listed (drop from (settled_of self.old.settled player))) (free_of self.old)
-            (free_of self.new) v) }
+        ensures tested { OnOk result (IsTested game.now target.player (listed (since target self.old.settled)) (free_of free self.old)
+            (free_of free self.new) v) }
     {
-        if !self.is_free(v) {
+        if !self.has_free(free, v) {
             return Ok(());
         }
-        if game.owner(v) == player {
-            let Some(w) = self.won_successor(game, player, from, v) else {
+        if game.owner(v) == target.player {
+            let Some(w) = self.won_successor(game, target, v) else {
                 return Ok(());
             };
-            self.put(player, v, Some(w), list)?;
+            self.put(free, target.player, v, Some(w), list)?;
             return Ok(());
         }
-        if self.free_successor(game, v).is_some() {
+        if self.free_successor(game, free, v).is_some() {
             return Ok(());
         }
-        self.put(player, v, None, list)?;
+        self.put(free, target.player, v, None, list)?;
         Ok(())
     }
 
-    /// A successor of the vertex that is settled for the player from the place on.
-    fn won_successor(&self, game: &Game, player: Player, from: usize, v: u32) -> Option<u32>
+    /// A successor of the vertex in the target.
+    fn won_successor(&self, game: &Game, target: Tail, v: u32) -> Option<u32>
         requires parts { AreParts (length game.now) self.now }
         requires vertex { v < length game.now }
-        ensures found { IfSome result (λ w. HasEdge game.now v w × In (listed (drop from (settled_of self.now.settled player))) w) }
-        ensures none { IsNone result → IsOut game.now (listed (drop from (settled_of self.now.settled player))) v }
+        ensures found { IfSome result (λ w. HasEdge game.now v w × In (listed (since target self.now.settled)) w) }
+        ensures none { IsNone result → IsOut game.now (listed (since target self.now.settled)) v }
     {
         for w in game.successors(v) {
-            if self.settled.has_from(player, from, *w) {
+            if self.settled.has(target, *w) {
                 return Some(*w);
             }
         }
         None
     }
 
-    /// Lists the active ones of these vertices, and then all active vertices that their player attracts to them, which are no longer
-    /// active. The number of the first.
-    pub fn begin_again(
+    /// Begins a subgame; this is part 2 of going back too (A'). Lists the active ones of these vertices for the player of the tail, and
+    /// then all active vertices that he attracts to them, which are no longer active. The number of the first, whose choices are
+    /// free: active or in the tail.
+    pub fn begin(
         &mut self,
         game: &Game,
+        free: Tail,
         vertices: &[u32],
         list: &mut Vec<u32>,
     ) -> Result<usize, Memory>
         requires parts { AreParts (length game.now) self.old }
         requires below { All (λ v. v < length game.now) vertices.now }
         requires once { Once vertices.now }
-        requires tops { (v : ℕ) → In (listed vertices.now) v → In (active_of self.old.subgame) v → (w : ℕ) × HasEdge game.now v w × In (free_of self.old) w }
-        requires others { (v : ℕ) → In (active_of self.old.subgame) v → listed vertices.now v ≡ false → owner_of game.now v ≡ opponent self.old.player
+        requires tops { (v : ℕ) → In (listed vertices.now) v → In (active_of self.old.subgame) v → (w : ℕ) × HasEdge game.now v w × In (free_of free self.old) w }
+        requires others { (v : ℕ) → In (active_of self.old.subgame) v → listed vertices.now v ≡ false → owner_of game.now v ≡ opponent free.player
             → (w : ℕ) × HasEdge game.now v w × In (active_of self.old.subgame) w }
         ensures parts { OnOk result (AreParts (length game.now) self.new) }
-        ensures begins { IfOk result (λ k. BeginsAgain game.now vertices.now self.old self.new list.new.items k) }
+        ensures begins { IfOk result (λ k. BeginsAgain game.now free vertices.now self.old self.new list.new.items k) }
     {
         list.clear();
-        self.give_active(game, vertices, list)?;
+        self.give_active(game, free, vertices, list)?;
         let tops = list.len();
         remove_all(&mut self.subgame.active, list);
-        self.subgame.attract(game, self.player, list)?;
+        self.free = self.settled.end(free.player);
+        attract_from(self, game, free.player, list, 0)?;
         Ok(tops)
     }
 
-    /// Gives the active ones of these vertices to the player, each with any free successor as its choice, and lists them.
+    /// Gives the active ones of these vertices to the player of the tail, each with any free successor as its choice, and lists them.
     fn give_active(
         &mut self,
         game: &Game,
+        free: Tail,
         vertices: &[u32],
         list: &mut Vec<u32>,
     ) -> Result<(), Memory>
         requires parts { AreParts (length game.now) self.old }
         requires below { All (λ v. v < length game.now) vertices.now }
         requires leads { (v : ℕ) → In (listed vertices.now) v → In (active_of self.old.subgame) v
-            → (w : ℕ) × HasEdge game.now v w × In (free_of self.old) w }
-        ensures { OnOk result (GivesActive game.now vertices.now self.old self.new list.old.items list.new.items) }
+            → (w : ℕ) × HasEdge game.now v w × In (free_of free self.old) w }
+        ensures { OnOk result (GivesActive game.now free vertices.now self.old self.new list.old.items list.new.items) }
     {
         for v in vertices {
             if self.subgame.active.has(*v) {
-                let choice = self.free_successor(game, *v);
-                self.subgame.plan.write(*v, self.player, choice);
+                let choice = self.free_successor(game, free, *v);
+                self.subgame.plan.write(*v, free.player, choice);
                 list.push(*v)?;
             }
         }
         Ok(())
     }
 
-    /// Makes active the settled vertices that are free and rest on a listed one, or on one that is settled for the other player from the
-    /// place on, and lists them.
+    /// Part 3 of going back: makes active the vertices of the tail `won` that rest on a listed one, or on one of the tail `lost` of the
+    /// other player, and lists them.
     pub fn open(
         &mut self,
         game: &Game,
-        other: Player,
-        from: usize,
+        won: Tail,
+        lost: Tail,
         list: &mut Vec<u32>,
     ) -> Result<(), Memory>
         requires parts { AreParts (length game.now) self.old }
-        requires other { other ≡ opponent self.old.player }
+        requires lost { lost.player ≡ opponent won.player }
         requires below { All (λ v. v < length game.now) list.old.items }
         ensures parts { OnOk result (AreParts (length game.now) self.new) }
-        ensures opened { OnOk result (HasOpened self.old list.old.items self.new list.new.items) }
-        ensures none { OnOk result ((v w : ℕ) → In (union (listed (drop from (settled_of self.old.settled other))) (listed list.new.items)) w
-            → RestsOn game.now self.new v w → ⊥) }
+        ensures opened { OnOk result (HasOpened won self.old list.old.items self.new list.new.items) }
+        ensures none { OnOk result ((v w : ℕ) → In (union (listed (since lost self.old.settled)) (listed list.new.items)) w
+            → RestsOn game.now won self.new v w → ⊥) }
     {
-        if self.settled.count(self.player) == self.from {
+        if self.settled.count(won.player) == won.from {
             return Ok(());
         }
-        self.open_around(game, other, from, list)?;
-        self.open_back(game, list)
+        self.open_around(game, won, lost, list)?;
+        self.open_back(game, won, list)
     }
 
-    /// Makes active what rests on a vertex that is settled for the other player from the place on, and lists it.
+    /// Makes active what rests on a vertex of the tail `lost`, and lists it.
     fn open_around(
         &mut self,
         game: &Game,
-        other: Player,
-        from: usize,
+        won: Tail,
+        lost: Tail,
         list: &mut Vec<u32>,
     ) -> Result<(), Memory>
         requires parts { AreParts (length game.now) self.old }
-        requires other { other ≡ opponent self.old.player }
+        requires lost { lost.player ≡ opponent won.player }
         ensures parts { OnOk result (AreParts (length game.now) self.new) }
-        ensures opened { OnOk result (HasOpened self.old list.old.items self.new list.new.items) }
-        ensures none { OnOk result ((v w : ℕ) → In (listed (drop from (settled_of self.old.settled other))) w → RestsOn game.now self.new v w → ⊥) }
+        ensures opened { OnOk result (HasOpened won self.old list.old.items self.new list.new.items) }
+        ensures none { OnOk result ((v w : ℕ) → In (listed (since lost self.old.settled)) w → RestsOn game.now won self.new v w → ⊥) }
     {
-        for place in from..self.settled.count(other) {
-            let to = self.settled.list(other)[place];
-            self.open_before(game, to, list)?;
+        for place in lost.from..self.settled.count(lost.player) {
+            let to = self.settled.list(lost.player)[place];
+            self.open_before(game, won, to, list)?;
         }
         Ok(())
     }
 
     /// Makes active what rests on a listed vertex, and lists it too, and so on.
-    fn open_back(&mut self, game: &Game, list: &mut Vec<u32>) -> Result<(), Memory>
+    fn open_back(&mut self, game: &Game, won: Tail, list: &mut Vec<u32>) -> Result<(), Memory>
         requires parts { AreParts (length game.now) self.old }
         requires below { All (λ v. v < length game.now) list.old.items }
         ensures parts { OnOk result (AreParts (length game.now) self.new) }
-        ensures opened { OnOk result (HasOpened self.old list.old.items self.new list.new.items) }
-        ensures none { OnOk result ((v w : ℕ) → In (listed list.new.items) w → RestsOn game.now self.new v w → ⊥) }
+        ensures opened { OnOk result (HasOpened won self.old list.old.items self.new list.new.items) }
+        ensures none { OnOk result ((v w : ℕ) → In (listed list.new.items) w → RestsOn game.now won self.new v w → ⊥) }
     {
         'list: for next in 0..usize::MAX {
             if next >= list.len() {
                 break;
             }
             let to = list[next];
-            self.open_before(game, to, list)?;
+            self.open_before(game, won, to, list)?;
         }
         Ok(())
     }
 
-    /// Makes active the settled vertices that are free and rest on the vertex, and lists them.
-    fn open_before(&mut self, game: &Game, to: u32, list: &mut Vec<u32>) -> Result<(), Memory>
+    /// Makes active the vertices of the tail that rest on the vertex, and lists them.
+    fn open_before(
+        &mut self,
+        game: &Game,
+        won: Tail,
+        to: u32,
+        list: &mut Vec<u32>,
+    ) -> Result<(), Memory>
         requires parts { AreParts (length game.now) self.old }
         requires vertex { to < length game.now }
         ensures parts { OnOk result (AreParts (length game.now) self.new) }
-        ensures opened { OnOk result (HasOpened self.old list.old.items self.new list.new.items) }
-        ensures none { OnOk result ((v : ℕ) → RestsOn game.now self.new v to → ⊥) }
+        ensures opened { OnOk result (HasOpened won self.old list.old.items self.new list.new.items) }
+        ensures none { OnOk result ((v : ℕ) → RestsOn game.now won self.new v to → ⊥) }
     {
         for v in game.predecessors(to) {
-            if self.rests_on(game, *v, to) {
-                self.settled.remove(self.player, *v);
+            if self.rests_on(game, won, *v, to) {
+                self.settled.remove(won.player, *v);
                 self.subgame.active.insert(*v);
                 list.push(*v)?;
             }
@@ -290,74 +292,87 @@ impl Parts {
         Ok(())
     }
 
-    /// Whether the vertex is settled and free, and its player needs that its edge to the other one stays inside.
-    fn rests_on(&self, game: &Game, v: u32, to: u32) -> bool
+    /// Whether the vertex is in the tail, and the tail's player needs that its edge to the other one stays inside.
+    fn rests_on(&self, game: &Game, won: Tail, v: u32, to: u32) -> bool
         requires parts { AreParts (length game.now) self.now }
         requires vertex { v < length game.now }
         requires edge { HasEdge game.now v to }
-        ensures yes { result ≡ true → RestsOn game.now self.now v to }
-        ensures no { RestsOn game.now self.now v to → result ≡ true }
+        ensures yes { result ≡ true → RestsOn game.now won self.now v to }
+        ensures no { RestsOn game.now won self.now v to → result ≡ true }
     {
-        self.settled.has_from(self.player, self.from, v)
-            && (game.owner(v) != self.player || self.subgame.plan.choice(v) == Some(to))
+        self.settled.has(won, v)
+            && (game.owner(v) != won.player || self.subgame.plan.choice(v) == Some(to))
     }
 
-    /// Takes a free vertex for the player, with this choice, and lists it.
+    /// Takes a free vertex for the player, with this choice, and lists it. Each vertex of each attraction comes here.
+    #[inline(always)]
     fn put(
         &mut self,
+        free: Tail,
         player: Player,
         v: u32,
         choice: Option<u32>,
         list: &mut Vec<u32>,
     ) -> Result<(), Memory>
-        requires fit { (n : ℕ) × FitParts n self.old list.old.items }
-        requires free { In (free_of self.old) v }
+        requires fit { (n : ℕ) × FitParts n free self.old list.old.items }
+        requires free { In (free_of free self.old) v }
         ensures items { OnOk result (list.new.items ≡ list.old.items ++ v ∷ []) }
-        ensures fit { OnOk result ((n : ℕ) → FitParts n self.old list.old.items → FitParts n self.new list.new.items) }
-        ensures fewer { OnOk result (AreFewerParts self.old self.new) }
-        ensures puts { OnOk result (Puts player v choice self.old self.new) }
+        ensures fit { OnOk result ((n : ℕ) → FitParts n free self.old list.old.items → FitParts n free self.new list.new.items) }
+        ensures fewer { OnOk result (AreFewerParts free self.old self.new) }
+        ensures puts { OnOk result (Puts free player v choice self.old self.new) }
+        ensures same { OnOk result (self.new.free ≡ self.old.free) }
     {
         list.push(v)?;
-        self.remove(v);
+        self.remove(free, v);
         self.subgame.plan.write(v, player, choice);
         Ok(())
     }
 
     /// A vertex that is free is so no more: it is not active, or not settled.
-    fn remove(&mut self, v: u32)
+    fn remove(&mut self, free: Tail, v: u32)
         requires parts { (n : ℕ) × AreParts n self.old }
-        requires free { In (free_of self.old) v }
+        requires free { In (free_of free self.old) v }
         ensures parts { (n : ℕ) → AreParts n self.old → AreParts n self.new }
-        ensures fewer { AreFewerParts self.old self.new }
-        ensures free { (w : ℕ) → free_of self.new w ≡ without (free_of self.old) (λ u. v == u) w }
+        ensures fewer { AreFewerParts free self.old self.new }
+        ensures free { (w : ℕ) → free_of free self.new w ≡ without (free_of free self.old) (λ u. v == u) w }
         ensures plan { self.new.subgame.plan ≡ self.old.subgame.plan }
+        ensures same { self.new.free ≡ self.old.free }
     {
         if self.subgame.active.has(v) {
             self.subgame.active.remove(v);
             return;
         }
-        self.settled.remove(self.player, v);
+        self.settled.remove(free.player, v);
+    }
+
+    /// Whether the vertex is free: active or in the tail.
+    fn has_free(&self, free: Tail, v: u32) -> bool
+        requires active { v < length self.now.subgame.active }
+        requires places { v < length self.now.settled.places.items }
+        ensures { result ≡ free_of free self.now v }
+    {
+        self.subgame.active.has(v) || self.settled.has(free, v)
     }
 
     /// A free successor of the vertex. The search begins where the last one ended, and ends there.
-    fn free_successor(&mut self, game: &Game, v: u32) -> Option<u32>
+    #[inline(always)]
+    fn free_successor(&mut self, game: &Game, free: Tail, v: u32) -> Option<u32>
         requires parts { AreParts (length game.now) self.old }
         requires vertex { v < length game.now }
         ensures parts { AreParts (length game.now) self.new }
-        ensures player { self.new.player ≡ self.old.player }
-        ensures from { self.new.from ≡ self.old.from }
+        ensures same { self.new.free ≡ self.old.free }
         ensures settled { self.new.settled ≡ self.old.settled }
         ensures active { self.new.subgame.active ≡ self.old.subgame.active }
         ensures plan { self.new.subgame.plan ≡ self.old.subgame.plan }
-        ensures found { IfSome result (λ w. HasEdge game.now v w × In (free_of self.old) w) }
-        ensures none { IsNone result → IsOut game.now (free_of self.old) v }
+        ensures found { IfSome result (λ w. HasEdge game.now v w × In (free_of free self.old) w) }
+        ensures none { IsNone result → IsOut game.now (free_of free self.old) v }
     {
         let successors = game.successors(v);
         let end = successors.len() as u32;
         let begin = self.subgame.cursors.places[v as usize].min(end);
-        let mut at = self.first_free(successors, begin, end);
+        let mut at = self.first_free(free, successors, begin, end);
         if at == end {
-            at = self.first_free(successors, 0, begin);
+            at = self.first_free(free, successors, 0, begin);
             if at == begin {
                 return None;
             }
@@ -367,18 +382,18 @@ impl Parts {
     }
 
     /// The first place from `begin` on of a free vertex, or `end`.
-    fn first_free(&self, vertices: &[u32], begin: u32, end: u32) -> u32
+    fn first_free(&self, free: Tail, vertices: &[u32], begin: u32, end: u32) -> u32
         requires active { (k : ℕ) → k < length vertices.now → slice_index vertices.now k < length self.now.subgame.active }
         requires places { (k : ℕ) → k < length vertices.now → slice_index vertices.now k < length self.now.settled.places.items }
         requires begin { begin ≤ end }
         requires end { end ≤ length vertices.now }
         ensures begin { begin ≤ result }
         ensures end { result ≤ end }
-        ensures passed { (k : ℕ) → begin ≤ k → k < result → free_of self.now (slice_index vertices.now k) ≡ false }
-        ensures found { result < end → In (free_of self.now) (slice_index vertices.now result) }
+        ensures passed { (k : ℕ) → begin ≤ k → k < result → free_of free self.now (slice_index vertices.now k) ≡ false }
+        ensures found { result < end → In (free_of free self.now) (slice_index vertices.now result) }
     {
         'places: for at in begin..end {
-            if self.is_free(vertices[at as usize]) {
+            if self.has_free(free, vertices[at as usize]) {
                 return at;
             }
         }
@@ -397,9 +412,9 @@ impl AttractorState for Parts {
 
     ghost size = { λ x. min (length x.subgame.active) (length x.settled.places.items) };
 
-    ghost free = { λ x. free_of x };
+    ghost free = { λ x. free_of x.free x };
 
-    ghost ready = { λ g x list capacity. FitParts (length g) x list };
+    ghost ready = { λ g x list capacity. FitParts (length g) x.free x list };
 
     ghost grown = { λ g p x list x' list'. KeepsFree g p x list x' list' };
 
@@ -410,11 +425,11 @@ impl AttractorState for Parts {
     }
 
     fn is_free(&self, v: u32) -> bool {
-        self.subgame.active.has(v) || self.settled.has_from(self.player, self.from, v)
+        self.has_free(self.free, v)
     }
 
     fn find_way_out(&mut self, game: &Game, _list: &Vec<u32>, v: u32) -> bool {
-        self.free_successor(game, v).is_some()
+        self.free_successor(game, self.free, v).is_some()
     }
 
     fn take(
@@ -425,7 +440,7 @@ impl AttractorState for Parts {
         choice: Option<u32>,
         list: &mut Vec<u32>,
     ) -> Result<(), Memory> {
-        self.put(player, v, choice, list)?;
+        self.put(self.free, player, v, choice, list)?;
         Ok(())
     }
 

@@ -1,15 +1,22 @@
-//! The vertices that each player has won for good: a list for each, and the place of each vertex in its list. A list only grows at
-//! its end, but for a vertex that is no longer won: the last one of the list takes its place.
+//! The settled vertices: a list for each player, and the place of each vertex in its list. Vertices are appended. One that is no
+//! longer won is removed, and the last one of the list takes its place.
 
-ghost use Rattle.std.specs.Prelude.{◌≡◌, ◌<◌, ◌+◌, ◌^◌, ◌++◌, ℕ, List, length, drop, [], IfOk, OnOk, All, slice_index_or, false};
+ghost use Rattle.std.specs.Prelude.{◌≡◌, ◌<◌, ◌+◌, ◌^◌, ◌++◌, ℕ, List, length, [], IfOk, OnOk, All, slice_index_or, false};
 ghost use Rattle.pg_game.specs.Player.{opponent};
 ghost use Rattle.pg_game.specs.VertexSet.{In};
 ghost use Rattle.pg_finders.specs.private.recursion.Listed.{listed, Once, Apart};
-ghost use Rattle.pg_finders.specs.private.recursion.Settled.{settled_of, IsPlaced, IsWithout};
+ghost use Rattle.pg_finders.specs.private.recursion.Settled.{settled_of, since, IsPlaced, IsWithout};
 ghost use Rattle.pg_finders.specs.private.recursion.Places.{HasPlaces, is_listed_from};
 
 use pg_game::{Memory, Player};
 use std::alloc::Global;
+
+/// The vertices that are settled for a player from a place of his list on.
+#[derive(Clone, Copy)]
+pub struct Tail {
+    pub player: Player,
+    pub from: usize,
+}
 
 /// The lists and the places.
 #[derive(Drop)]
@@ -49,18 +56,29 @@ impl Settled {
         self.list(player).len()
     }
 
-    /// Whether the vertex is in the player's list, from the place `from` on.
-    pub fn has_from(&self, player: Player, from: usize, v: u32) -> bool
-        requires { v < length self.now.places.items }
-        ensures place { result ≡ is_listed_from self.now.places.items (settled_of self.now player) from v }
-        ensures listed { (n : ℕ) → IsPlaced n self.now → result ≡ listed (drop from (settled_of self.now player)) v }
+    /// The end of the player's list, where nothing is settled.
+    pub fn end(&self, player: Player) -> Tail
+        ensures player { result.player ≡ player }
+        ensures from { result.from ≡ length (settled_of self.now player) }
     {
-        let list = self.list(player);
-        if from >= list.len() {
+        Tail {
+            player,
+            from: self.count(player),
+        }
+    }
+
+    /// Whether the vertex is in the tail.
+    pub fn has(&self, tail: Tail, v: u32) -> bool
+        requires { v < length self.now.places.items }
+        ensures place { result ≡ is_listed_from self.now.places.items (settled_of self.now tail.player) tail.from v }
+        ensures listed { (n : ℕ) → IsPlaced n self.now → result ≡ listed (since tail self.now) v }
+    {
+        let list = self.list(tail.player);
+        if tail.from >= list.len() {
             return false;
         }
         let place = self.places[v as usize] as usize;
-        if place < from {
+        if place < tail.from {
             return false;
         }
         if place >= list.len() {

@@ -3,10 +3,10 @@
 ghost use Rattle.std.specs.Prelude.{All, IfOk};
 ghost use Rattle.pg_game.specs.Specification.{AreNumbers};
 
-mod memory;
+mod allocations;
 mod readme;
 
-use pg_game::{ForwardGame, Game, GameBuilder, GameFault, Memory, Player, Sequence, Spec};
+use pg_game::{ForwardGame, Game, GameBuilder, GameFault, Mask, Memory, Player, Sequence, Spec};
 use pg_test_support::{EVEN, ODD, check_eq};
 use std::alloc::Global;
 use std::process::Abort;
@@ -196,4 +196,12 @@ fn vertices_are_limited_before_all_else_and_edges_before_their_ends(rt: HostRunt
     for case in LIMITS {
         compare_dense(&rt, rt.alloc(), *case);
     }
+}
+
+#[test]
+fn a_copy_of_a_mask_changes_alone(rt: HostRuntime) {
+    let full = Mask::full(rt.alloc(), 3).expect(&rt, "memory");
+    let mut copy = full.copy(rt.alloc()).expect(&rt, "memory");
+    copy.remove(2);
+    check_eq!(rt; (copy.count(), full.count()), (2, 3));
 }

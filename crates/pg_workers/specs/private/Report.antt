@@ -1,8 +1,15 @@
 -- The report of a run: one row for each job (private).
-use Rattle.std.specs.Prelude.{ℕ, ◌≡◌, ◌≤◌, ◌<◌, ◌+◌, true, List, length, map, flat_map, slice_get, Some, Result, Ok, Err, Vec}
+use Rattle.std.specs.Prelude.{ℕ, ◌≡◌, ◌≤◌, ◌<◌, ◌+◌, ◌⊎◌, true, false, List, length, map, flat_map, slice_get, Some, Result, Ok, Err, Vec}
 use Rattle.std.specs.Global.{Global}
 use Rattle.pg_workers.specs.declared.report.ReportRow.{ReportRow}
 use Rattle.pg_workers.specs.Counting.{times, once_below}
+use Rattle.pg_game.specs.Graph.{Graph}
+use Rattle.pg_dominion.specs.Checked.{CheckedClaim, claim_of}
+use Rattle.pg_dominion.specs.Fault.{IsClaimFault}
+use Rattle.pg_dominion.specs.declared.claim.Claim.{Claim}
+use Rattle.pg_dominion.specs.declared.claim.ClaimFault.{ClaimFault}
+use Rattle.pg_board.specs.Office.{IsCheckedAnswerOfSome}
+use Rattle.pg_board.specs.Refusal.{refusal_of}
 use Rattle.pg_board.specs.declared.journal.Refusal.{Refusal}
 use Rattle.pg_board.specs.declared.journal.Refusal.TheVariants as refusal
 use Rattle.pg_workers.specs.Report.{AreCounts, IsInOrder, IsReport, blank_row}
@@ -59,13 +66,20 @@ pub record IsWorkersRow (job worker : ℕ) (r : ReportRow) : Type 0 where
   pub worker_is : r.worker ≡ Some worker
   pub counts : AreCounts r
 
--- The row counts the answers to at most this many further claims of its job, and the worker's share rises by what they settled.
+-- The row counts the answers to this many further claims of its job, or to fewer if memory was refused. The worker's share rises by what they settled.
 pub record AreCounted (claims : ℕ) (old new : ReportRow) (share later : ℕ) : Type 0 where
   pub job : new.job ≡ old.job
   pub worker : new.worker ≡ old.worker
   pub few : answered new ≤ answered old + claims
+  pub all : new.memory ≡ false → answered new ≡ answered old + claims
   pub counts : AreCounts old → AreCounts new
   pub settled : later + old.settled ≡ share + new.settled
+
+-- the answer to a claim: why its check on the game failed, or the answer of some board to the checked claim
+abbrev pub IsClaimAnswer : ℕ → ℕ → Graph → Claim → Result ℕ Refusal → Type 0
+IsClaimAnswer amount worker g claim answer =
+    ((fault : ClaimFault) × IsClaimFault g claim.player claim.rows fault × (answer ≡ Err (refusal_of fault)))
+    ⊎ ((checked : CheckedClaim) × (claim_of checked ≡ claim) × IsCheckedAnswerOfSome amount worker checked answer)
 
 -- what a report says of its jobs, posts aside, the new one says too
 pub record KeepsReport (old new : List ReportRow) : Type 0 where

@@ -1,5 +1,5 @@
-use Rattle.pg_finders.proofs.Common.{◌≡◌, ◌∙◌, ◌+◌, ◌-◌, ◌≤◌, ◌<◌, ℕ, Option, None, Some, In, ap, subst, refl, members, IfOk, IsNone, VertexSet, List, Bool, sym, AreFewer, false}
-use Rattle.pg_finders.proofs.Common.{how_many, steps, arith}
+use Rattle.pg_finders.proofs.Common.{◌≡◌, ◌∙◌, ◌+◌, ◌-◌, ◌≤◌, ◌<◌, ℕ, Option, None, Some, In, ap, subst, refl, members, IfOk, IsNone, VertexSet, List, Bool, sym, AreFewer, HasStepped, false, true}
+use Rattle.pg_finders.proofs.Common.{how_many, steps, arith, Graph, length, priority_count}
 use Rattle.std.specs.Option.{IsSome}
 use Rattle.std.proofs.lemmas.Result.{IfOk-weaker}
 use Rattle.pg_finders.specs.Steps.{work, gone_from}
@@ -7,17 +7,29 @@ use Rattle.pg_finders.specs.private.recursion.SolverState.{number_left}
 use Rattle.pg_finders.specs.declared.recursion.Solved.{Solved}
 use Rattle.pg_finders.specs.declared.recursion.Solver.{Solver}
 use Rattle.pg_finders.proofs.Sets.{no_both}
-use Rattle.pg_finders.proofs.recursion.WaitingLevels.{steps_grow}
+use Rattle.pg_finders.proofs.Steps.{steps_grow}
 use Rattle.pg_finders.proofs.recursion.zielonka_within.Goals as goal
+
+-- a solver that solves takes a step, which it must have been given
+none_taken : (left : Option ℕ) → HasStepped (Some 0) left → ⊥
+none_taken None h = absurd (let e : false ≡ true = h.1 in cc e)
+none_taken (Some m) h = absurd (omega (arith, h.0))
+
+none_found : (found : Option Solved) (limit left : Option ℕ) → limit ≡ Some 0 → (IsSome found → HasStepped limit left) → IsNone found
+none_found None limit left is taken = refl
+none_found (Some solved) limit left is taken = absurd (none_taken left (subst (λ (l : Option ℕ). HasStepped l left) is (taken refl)))
 
 pub returns-clause-no_steps : goal.returns-clause-no_steps
 returns-clause-no_steps c =
     subst (λ (A : VertexSet). IfOk c.solve.result (λ found. c.args.limit ≡ Some 0 → (v : ℕ) → In A v → IsNone found))
-    (ap members (c.in_ok-solver.ensures.active ∙ c.view-view.ensures.mask)) c.solve.ensures.no_steps
+    (ap members (c.in_ok-solver.ensures.active ∙ c.view-view.ensures.mask))
+    (IfOk-weaker c.solve.result _ _ (λ found taken is v m. none_found found c.args.limit c.solve.new.left is (λ some. taken some v m)) c.solve.ensures.charged)
 
 -- a solver has work left
-work_some : (n : ℕ) (x : Solver) → 0 < work n x
-work_some n x = let h = steps_grow 0 (n - gone_from x) (omega arith) in omega (arith, h)
+work_some : (g : Graph) (mask : List Bool) (x : Solver) → 0 < work g mask x
+work_some g mask x =
+    let h = steps_grow 0 (priority_count g (members mask) - length x.frames.items) 0 (how_many mask - gone_from x) (omega arith) (omega arith) in
+    omega (arith, h)
 
 -- so one that began with at most as many steps as it was given does not give up
 found_some : (found : Option Solved) (limit : Option ℕ) (after before bound k : ℕ) → 0 < after → before ≤ bound
@@ -30,11 +42,16 @@ found_some None limit after before bound k some few spends is enough =
 pub returns-clause-enough : goal.returns-clause-enough
 returns-clause-enough c =
     let new = c.solve.new.self in
+    let game = c.view-view.result.game.now in
     let mask = c.view-view.result.mask.now in
-    subst (λ (m : List Bool). IfOk c.solve.result (λ found. (k : ℕ) → c.args.limit ≡ Some k → steps (how_many m) ≤ k → IsSome found)) c.view-view.ensures.mask
+    let part = c.args.inside.now in
+    subst (λ (h : Graph). IfOk c.solve.result (λ found. (k : ℕ) → c.args.limit ≡ Some k → steps (priority_count h (members part.mask)) (how_many part.mask) ≤ k
+    → IsSome found)) c.view-view.ensures.graph
+    (subst (λ (m : List Bool). IfOk c.solve.result (λ found. (k : ℕ) → c.args.limit ≡ Some k → steps (priority_count game (members m)) (how_many m) ≤ k
+    → IsSome found)) c.view-view.ensures.mask
     (IfOk-weaker c.solve.result _ _ (λ found stopped k is enough.
-    found_some found c.args.limit _ _ _ k (work_some (how_many mask) new) c.in_ok-solver.ensures.work (λ n. (stopped n).spent) is enough)
-    c.solve.ensures.stopped)
+    found_some found c.args.limit _ _ _ k (work_some game mask new) c.in_ok-solver.ensures.work (λ n. (stopped n).spent) is enough)
+    c.solve.ensures.stopped))
 
 pub returns-clause-nothing : goal.returns-clause-nothing
 returns-clause-nothing c = IfOk-weaker c.solve.result _ _ (λ found stopped none.

@@ -8,6 +8,7 @@ use Rattle.pg_game.specs.Kept.{Choices}
 use Rattle.pg_finders.specs.declared.recursion.Frame.{Frame}
 use Rattle.pg_finders.specs.private.recursion.Listed.{listed, Once, Apart}
 use Rattle.pg_finders.specs.private.recursion.Settled.{SettledLists}
+use Rattle.pg_finders.specs.declared.recursion.settled.Tail.{Tail}
 use Rattle.pg_finders.specs.private.Solved.{Winners}
 use Rattle.pg_finders.specs.private.recursion.Levels.{Level, AreLevels}
 
@@ -23,6 +24,10 @@ part U settled set_aside v = U v && not (gone settled set_aside v)
 abbrev pub count_at : Frame → Player → ℕ
 count_at f Even = f.even
 count_at f Odd = f.odd
+
+-- what was settled for the player since
+abbrev pub tail_at : Frame → Player → Tail
+tail_at f p = record { player = p; from = count_at f p }
 
 abbrev pub prefix : Frame → SettledLists → SettledLists
 prefix f settled p = take (count_at f p) (settled p)

@@ -4,6 +4,7 @@ use Rattle.pg_game.specs.declared.player.Player.{Player}
 use Rattle.pg_game.specs.declared.player.Player.TheVariants.{Even, Odd}
 use Rattle.pg_game.specs.VertexSet.{In}
 use Rattle.pg_finders.specs.declared.recursion.settled.Settled.{Settled}
+use Rattle.pg_finders.specs.declared.recursion.settled.Tail.{Tail}
 use Rattle.pg_finders.specs.private.recursion.Listed.{listed}
 use Rattle.pg_finders.specs.private.recursion.Places.{ArePlaced}
 
@@ -14,6 +15,10 @@ SettledLists = Player → List ℕ
 abbrev pub settled_of : Settled → SettledLists
 settled_of x Even = x.even.items
 settled_of x Odd = x.odd.items
+
+-- the vertices of the tail
+abbrev pub since : Tail → Settled → List ℕ
+since t x = drop t.from (settled_of x t.player)
 
 -- the vertices are below n, and the table has their places
 abbrev pub IsPlaced : ℕ → Settled → Type 0

@@ -7,16 +7,17 @@ use Rattle.pg_game.specs.Graph.{Graph, HasEdge, owner_of}
 use Rattle.pg_game.specs.VertexSet.{VertexSet, In, Within, union, without}
 use Rattle.pg_finders.specs.declared.recursion.Frame.{Frame}
 use Rattle.pg_finders.specs.declared.recursion.Solver.{Solver}
+use Rattle.pg_finders.specs.declared.recursion.settled.Tail.{Tail}
 use Rattle.pg_finders.specs.declared.recursion.parts.Parts.{Parts}
 use Rattle.pg_finders.specs.declared.recursion.subgame.Plan.{Plan}
 use Rattle.pg_finders.specs.private.Solved.{IsAttracted}
 use Rattle.pg_finders.specs.private.recursion.Listed.{listed, Once, Apart}
 use Rattle.pg_finders.specs.private.recursion.Levels.{Level}
-use Rattle.pg_finders.specs.private.recursion.OpenLevels.{count_at, level_at}
+use Rattle.pg_finders.specs.private.recursion.OpenLevels.{count_at, tail_at, level_at}
 use Rattle.pg_finders.specs.private.recursion.Order.{AreVertices}
-use Rattle.pg_finders.specs.private.recursion.Parts.{rest_of, AreParts, AttractsFree}
+use Rattle.pg_finders.specs.private.recursion.Parts.{AreParts, AttractsFree}
 use Rattle.pg_finders.specs.private.recursion.Plans.{winners_of, choices_of, SameAt, SameOutside}
-use Rattle.pg_finders.specs.private.recursion.Settled.{SettledLists, settled_of}
+use Rattle.pg_finders.specs.private.recursion.Settled.{SettledLists, settled_of, since}
 use Rattle.pg_finders.specs.private.recursion.TakenVertices.{active_of, place, HasTaken, AttractsNoActive}
 
 -- what the frame has set aside, of all that is, and the greatest of it
@@ -26,16 +27,13 @@ aside_of f xs = take (f.upto - f.set_aside) (drop f.set_aside xs)
 abbrev pub greatest_of : Frame → List ℕ → List ℕ
 greatest_of f xs = take (f.tops - f.set_aside) (drop f.set_aside xs)
 
--- the player's vertices that were settled since the subgame was begun
-abbrev pub since : Frame → SettledLists → Player → List ℕ
-since f settled p = drop (count_at f p) (settled p)
-
--- what was set aside is active again, and what the level's player has won in its rest is free
-pub record IsReopened (n : ℕ) (level : Level) (aside lost won : List ℕ) (from : ℕ) (old : Plan) (x : Parts) : Type 0 where
+-- what was set aside is active again; in the rest of the level its player has won the one tail, and the opponent the other
+pub record IsReopened (n : ℕ) (level : Level) (aside lost won : List ℕ) (t u : Tail) (old : Plan) (x : Parts) : Type 0 where
   pub parts : AreParts n x
-  pub player : x.player ≡ level.player
-  pub has_won : rest_of x ≡ won
-  pub has_lost : drop from (settled_of x.settled (opponent level.player)) ≡ lost
+  pub player : t.player ≡ level.player
+  pub other : u.player ≡ opponent level.player
+  pub has_won : since t x.settled ≡ won
+  pub has_lost : since u x.settled ≡ lost
   pub active : (v : ℕ) → active_of x.subgame v ≡ listed aside v
   pub plan : x.subgame.plan ≡ old
 
@@ -76,11 +74,10 @@ pub record KeepsLists (x x' : Solver) : Type 0 where
 pub record Loses (g : Graph) (U : VertexSet) (f : Frame) (x x' : Solver) : Type 0 where
   pub freed : Parts
   pub reopened : IsReopened (length g) (level_at U (settled_of x.parts.settled) x.set_aside.items f) (aside_of f x.set_aside.items)
-      (since f (settled_of x.parts.settled) (opponent f.player)) (since f (settled_of x.parts.settled) f.player) (count_at f (opponent f.player))
-      x.parts.subgame.plan freed
+      (since (tail_at f (opponent f.player)) x.parts.settled) (since (tail_at f f.player) x.parts.settled) (tail_at f f.player)
+      (tail_at f (opponent f.player)) x.parts.subgame.plan freed
   pub settled : freed.settled ≡ x.parts.settled
-  pub from : freed.from ≡ count_at f f.player
-  pub attracts : AttractsFree g (opponent f.player) (count_at f (opponent f.player)) freed x'.parts x'.list.items
+  pub attracts : AttractsFree g (tail_at f f.player) (tail_at f (opponent f.player)) freed x'.parts x'.list.items
   pub parts : AreParts (length g) x'.parts
   pub kept : KeepsLists x x'
 
@@ -88,9 +85,8 @@ pub record Loses (g : Graph) (U : VertexSet) (f : Frame) (x x' : Solver) : Type 
 pub record Shrinks (g : Graph) (U : VertexSet) (f : Frame) (x x' : Solver) (k : ℕ) : Type 0 where
   pub taken : List ℕ
   pub shrunk : IsShrunk g (level_at U (settled_of x.parts.settled) x.set_aside.items f)
-      (drop (count_at f (opponent f.player)) (settled_of x.parts.settled (opponent f.player)))
-      (drop (count_at f f.player) (settled_of x.parts.settled f.player)) x.parts.subgame.plan taken x'.list.items k
-      (drop (count_at f f.player) (settled_of x'.parts.settled f.player)) (active_of x'.parts.subgame) x'.parts.subgame.plan
+      (since (tail_at f (opponent f.player)) x.parts.settled) (since (tail_at f f.player) x.parts.settled) x.parts.subgame.plan taken x'.list.items k
+      (since (tail_at f f.player) x'.parts.settled) (active_of x'.parts.subgame) x'.parts.subgame.plan
   pub lost : settled_of x'.parts.settled (opponent f.player) ≡ settled_of x.parts.settled (opponent f.player) ++ taken
   pub before : take (count_at f f.player) (settled_of x'.parts.settled f.player) ≡ take (count_at f f.player) (settled_of x.parts.settled f.player)
   pub parts : AreParts (length g) x'.parts
@@ -135,13 +131,11 @@ WaitsAgain f k x x' = ((k ≡ 0) × (x' ≡ x))
     ⊎ ((1 ≤ k) × Waits f.player k (count_again f (settled_of x.parts.settled) f.player Even) (count_again f (settled_of x.parts.settled) f.player Odd)
     x x')
 
--- the player has attracted active vertices to what was settled for him from a place on, unless that is nothing
-pub record WinsBack (g : Graph) (p : Player) (from : ℕ) (x x' : Parts) : Type 0 where
+-- the tail's player has attracted active vertices to it, unless it is empty
+pub record WinsBack (g : Graph) (t : Tail) (x x' : Parts) : Type 0 where
   pub more : List ℕ
-  pub grown : HasTaken g p (active_of x.subgame) x.subgame.plan (drop from (settled_of x.settled p)) (active_of x'.subgame) x'.subgame.plan
-      (drop from (settled_of x.settled p) ++ more)
-  pub done : ((drop from (settled_of x.settled p) ≡ []) × (more ≡ []))
-      ⊎ AttractsNoActive g p (union (active_of x.subgame) (listed (drop from (settled_of x.settled p)))) (listed (drop from (settled_of x.settled p) ++ more))
-      (active_of x'.subgame)
-  pub own : settled_of x'.settled p ≡ settled_of x.settled p ++ more
-  pub other : settled_of x'.settled (opponent p) ≡ settled_of x.settled (opponent p)
+  pub grown : HasTaken g t.player (active_of x.subgame) x.subgame.plan (since t x.settled) (active_of x'.subgame) x'.subgame.plan (since t x.settled ++ more)
+  pub done : ((since t x.settled ≡ []) × (more ≡ []))
+      ⊎ AttractsNoActive g t.player (union (active_of x.subgame) (listed (since t x.settled))) (listed (since t x.settled ++ more)) (active_of x'.subgame)
+  pub own : settled_of x'.settled t.player ≡ settled_of x.settled t.player ++ more
+  pub other : settled_of x'.settled (opponent t.player) ≡ settled_of x.settled (opponent t.player)

@@ -1,8 +1,8 @@
 -- The solver in its loop, and the steps that it takes (private).
-use Rattle.std.specs.Prelude.{ℕ, ◌≡◌, ◌+◌, ◌-◌, ◌≤◌, Bool, false, List, [], ◌∷◌, ◌++◌, length, Option, None, Some, IsSome, IfSome}
+use Rattle.std.specs.Prelude.{ℕ, ◌≡◌, ◌+◌, ◌-◌, ◌≤◌, ◌<◌, Bool, false, List, [], ◌∷◌, ◌++◌, length, Option, None, Some, IsSome, IfSome}
 use Rattle.pg_game.specs.declared.player.Player.TheVariants.{Even, Odd}
 use Rattle.pg_game.specs.Graph.{Graph}
-use Rattle.pg_game.specs.VertexSet.{members, how_many}
+use Rattle.pg_game.specs.VertexSet.{In, members, how_many}
 use Rattle.pg_game.specs.Subgame.{IsSubgame}
 use Rattle.pg_finders.specs.declared.recursion.Frame.{Frame}
 use Rattle.pg_finders.specs.declared.recursion.Solver.{Solver}
@@ -45,6 +45,15 @@ abbrev pub AreFewer : Option ℕ → Option ℕ → Type 0
 AreFewer None left = left ≡ None
 AreFewer (Some n) left = IfSome left (λ m. m ≤ n) × IsSome left
 
+-- fewer steps are left than before, where there is a limit
+abbrev pub HasStepped : Option ℕ → Option ℕ → Type 0
+HasStepped None left = Unit {0}
+HasStepped (Some n) left = IfSome left (λ m. m < n) × IsSome left
+
+-- where a vertex is inside, one is active: a step remains to be taken
+abbrev pub HasMore : List Bool → Solver → Type 0
+HasMore inside x = (v : ℕ) → In (members inside) v → (u : ℕ) × In (active_of x.parts.subgame) u
+
 -- the number of steps that are left; 0 without a limit
 abbrev pub number_left : Option ℕ → ℕ
 number_left None = 0
@@ -54,4 +63,5 @@ number_left (Some n) = n
 pub record HasStopped (g : Graph) (inside : List Bool) (left left' : Option ℕ) (x x' : Solver) : Type 0 where
   pub running : IsSolverState g inside x'
   pub none_left : left' ≡ Some 0
-  pub spent : work (how_many inside) x' + number_left left ≤ work (how_many inside) x
+  pub more : (v : ℕ) × In (active_of x'.parts.subgame) v
+  pub spent : work g inside x' + number_left left ≤ work g inside x

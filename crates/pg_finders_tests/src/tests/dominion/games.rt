@@ -6,35 +6,32 @@ ghost use Rattle.std.specs.Prelude.{◌≡◌, length};
 use crate::tests::asserting::made;
 use pg_dominion::Claim;
 use pg_game::{Game, Mask, Player, Sequence};
-use pg_test_support::{Draft, ODD, Random, Row, Vertex, game_of, mask_of, twice};
+use pg_test_support::{Draft, ODD, Random, Row, Vertex, game_of, mask_of};
 use std::alloc::Global;
 use std::process::Abort;
 
-/// The game of a table, made once more where memory was refused.
+/// The game of a table.
 pub fn game_made(rt: &impl Abort, alloc: Global, vertices: &[Vertex]) -> Game {
-    made(rt, twice!(game_of(alloc, vertices)))
+    made(rt, game_of(alloc, vertices))
 }
 
-/// A claim, made once more where memory was refused.
+/// A claim.
 pub fn claim_of(rt: &impl Abort, alloc: Global, player: Player, rows: &[Row]) -> Claim {
-    let rows = made(rt, twice!(Vec::from_slice(alloc, rows)));
+    let rows = made(rt, Vec::from_slice(alloc, rows));
     Claim {
         player,
         rows: Sequence::new(rows),
     }
 }
 
-/// The mask of length `n` with the members of a set, made once more where memory was refused.
+/// The mask of length `n` with the members of a set.
 pub fn mask_made(rt: &impl Abort, alloc: Global, n: u32, set: u32) -> Mask
     ensures { length result ≡ n }
 {
-    match mask_of(alloc, n, set) {
-        Ok(mask) => mask,
-        Err(_) => mask_of(alloc, n, set).expect(rt, "no memory"),
-    }
+    mask_of(alloc, n, set).expect(rt, "no memory")
 }
 
-/// Adds a vertex, once more where memory was refused.
+/// Adds a vertex.
 fn add(
     rt: &impl Abort,
     alloc: Global,
@@ -43,7 +40,7 @@ fn add(
     owner: Player,
     successors: &[u32],
 ) {
-    made(rt, twice!(draft.add(alloc, priority, owner, successors)));
+    made(rt, draft.add(alloc, priority, owner, successors));
 }
 
 /// The numbers from one on, before another.
@@ -102,9 +99,9 @@ impl Hostile {
         draft
     }
 
-    /// The game alone, made once more where memory was refused.
+    /// The game alone.
     pub fn game(self, rt: &impl Abort, alloc: Global) -> Game {
-        made(rt, twice!(self.draft(rt, alloc).game(alloc)))
+        made(rt, self.draft(rt, alloc).game(alloc))
     }
 }
 
@@ -198,9 +195,9 @@ fn on_cycle(first: u32, n: u32, at: u32) -> u32 {
     first.saturating_add(place)
 }
 
-/// Capacity for a few vertices, taken once more where memory was refused.
+/// Capacity for a few vertices.
 fn room_for(rt: &impl Abort, alloc: Global, few: u8) -> Vec<u32> {
-    made(rt, twice!(Vec::with_capacity(alloc, usize::from(few))))
+    made(rt, Vec::with_capacity(alloc, usize::from(few)))
 }
 
 /// A few numbers from one on.

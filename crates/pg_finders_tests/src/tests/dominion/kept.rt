@@ -23,24 +23,18 @@ pub fn odd_vertices(rt: &impl Abort, alloc: Global, game: &Game) -> Mask
     odd
 }
 
-/// A mask of no vertices, made once more where memory was refused.
+/// A mask of no vertices.
 fn no_vertices(rt: &impl Abort, alloc: Global, game: &Game) -> Mask
     ensures { result ≡ replicate (length game.now) false }
 {
-    match Mask::empty(alloc, game.len()) {
-        Ok(mask) => mask,
-        Err(_) => Mask::empty(alloc, game.len()).expect(rt, "no memory"),
-    }
+    Mask::empty(alloc, game.len()).expect(rt, "no memory")
 }
 
-/// No kept edges, made once more where memory was refused.
+/// No kept edges.
 fn no_edges<'g>(rt: &impl Abort, alloc: Global, game: &'g Game) -> StrategyGraph<'g>
     ensures { result.game.now ≡ game.now }
 {
-    match StrategyGraph::new(alloc, game.forward()) {
-        Ok(kept) => kept,
-        Err(_) => StrategyGraph::new(alloc, game.forward()).expect(rt, "no memory"),
-    }
+    StrategyGraph::new(alloc, game.forward()).expect(rt, "no memory")
 }
 
 /// All edges of a game, with these bad vertices.
@@ -59,13 +53,5 @@ pub fn least_bad(rt: &impl Abort, alloc: Global, game: &Game, bad: Mask) -> Opti
     requires { length bad ≡ length game.now }
 {
     let kept = all_edges(rt, alloc, game, &bad);
-    least_bad_kept(rt, alloc, &kept)
-}
-
-/// The same, asked once more where memory was refused.
-fn least_bad_kept(rt: &impl Abort, alloc: Global, kept: &StrategyGraph) -> Option<u32> {
-    match least_bad_vertex(alloc, kept) {
-        Ok(found) => found,
-        Err(_) => made(rt, least_bad_vertex(alloc, kept)),
-    }
+    made(rt, least_bad_vertex(alloc, &kept))
 }

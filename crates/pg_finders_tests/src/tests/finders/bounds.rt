@@ -1,11 +1,11 @@
 //! `zielonka_within` on a recursive ladder (Friedmann 2011), and on a game that was made to take many steps: with
-//! enough of them it gives the claims of `zielonka`, and with fewer none. The numbers of steps are those of `Recursion`
-//! in `tests/plain.py`, and the same whichever choices it keeps.
+//! enough of them it gives the claims of `zielonka`, and with fewer none. Another recursion would need other numbers of
+//! steps. And on small games, which never take more than the proved bound.
 
 use crate::tests::asserting::made;
 use crate::tests::finders::games::{game, whole};
 use pg_finders::{Inside, Solved, zielonka, zielonka_within};
-use pg_test_support::{EVEN, ODD, Row, Vertex, check, check_eq};
+use pg_test_support::{EVEN, ODD, Plain, Random, Row, Vertex, bit, check, check_eq, game_of_sets};
 use std::alloc::Global;
 use std::process::Abort;
 
@@ -82,4 +82,81 @@ fn a_ladder_of_four_levels_needs_13_steps(rt: HostRuntime) {
 #[test]
 fn a_game_of_ten_vertices_needs_20_steps(rt: HostRuntime) {
     assert_needs(&rt, rt.alloc(), MANY_STEPS, 20);
+}
+
+/// The proved bound for `n` vertices of `d` different priorities: 3 * (C(n, 0) + .. + C(n, d)) - 2.
+fn most_steps(d: u32, n: u32) -> u64 {
+    let mut choices = 1_u64;
+    let mut sum = 1_u64;
+    for k in 1..=d.min(n) {
+        choices = choices.saturating_mul(u64::from(n - k + 1)) / u64::from(k);
+        sum = sum.saturating_add(choices);
+    }
+    sum.saturating_mul(3).saturating_sub(2)
+}
+
+/// The bound is enough for a game whose priorities are below 32.
+fn assert_bounded(rt: &impl Abort, alloc: Global, rows: &[Plain]) {
+    let mut priorities = 0_u32;
+    for (priority, _owner, _set) in rows {
+        priorities |= bit(*priority);
+    }
+    let game = made(rt, game_of_sets(alloc, rows));
+    let steps = most_steps(priorities.count_ones(), game.len());
+    let solved = made(
+        rt,
+        zielonka_within(alloc, &whole(rt, alloc, &game), Some(steps)),
+    );
+    check!(*rt; solved.is_some(), steps);
+}
+
+/// How many rows a vertex of a game of `n` may have, if its priority is below six.
+fn row_count(n: u32) -> u32 {
+    bit(n).saturating_sub(1).saturating_mul(12)
+}
+
+/// The row with this number. A vertex has some successor.
+fn row(n: u32, number: u32) -> Plain {
+    let owner = if number % 2 == 0 { EVEN } else { ODD };
+    let set = number / 12 % bit(n).saturating_sub(1).max(1);
+    (number / 2 % 6, owner, set.saturating_add(1))
+}
+
+/// Three priorities have each order and each parity below six.
+#[test]
+fn no_game_of_three_vertices_needs_more_steps_than_the_bound(rt: HostRuntime) {
+    let alloc = rt.alloc();
+    for a in 0..row_count(1) {
+        assert_bounded(&rt, alloc, [row(1, a)].as_slice());
+    }
+    for a in 0..row_count(2) {
+        for b in 0..row_count(2) {
+            assert_bounded(&rt, alloc, [row(2, a), row(2, b)].as_slice());
+        }
+    }
+    for a in 0..row_count(3) {
+        for b in 0..row_count(3) {
+            for c in 0..row_count(3) {
+                assert_bounded(&rt, alloc, [row(3, a), row(3, b), row(3, c)].as_slice());
+            }
+        }
+    }
+}
+
+/// Of one to 12 vertices, and of one to 12 priorities.
+#[test]
+fn no_random_game_needs_more_steps_than_the_bound(rt: HostRuntime) {
+    let alloc = rt.alloc();
+    let mut random = Random::new(1);
+    for _game in 0..100_000 {
+        let n = random.below(12).saturating_add(1);
+        let priorities = random.below(12).saturating_add(1);
+        let mut rows = Vec::new(alloc);
+        for _v in 0..n {
+            let owner = if random.below(2) == 0 { EVEN } else { ODD };
+            let set = (random.below(bit(n)) & random.below(bit(n))) | bit(random.below(n));
+            made(&rt, rows.push((random.below(priorities), owner, set)));
+        }
+        assert_bounded(&rt, alloc, rows.as_slice());
+    }
 }

@@ -5,7 +5,7 @@ ghost use Rattle.std.specs.Prelude.{◌≡◌, length};
 use crate::tests::asserting::made;
 use pg_finders::{Copied, Inside};
 use pg_game::{Game, GameFault, Mask, Player};
-use pg_test_support::{Draft, EVEN, ODD, Row, Vertex, game_of, mask_of, twice};
+use pg_test_support::{Draft, EVEN, ODD, Row, Vertex, game_of, mask_of};
 use std::alloc::Global;
 use std::process::Abort;
 
@@ -46,10 +46,9 @@ pub const NINE: &[Vertex] = &[
     (0, EVEN, &[0]),
 ];
 
-/// The game of these vertices, of which nothing is said. It, masks and copies are made once more where memory
-/// was refused.
+/// The game of these vertices, of which nothing is said.
 pub fn game(rt: &impl Abort, alloc: Global, vertices: &[Vertex]) -> Game {
-    made(rt, twice!(game_of(alloc, vertices)))
+    made(rt, game_of(alloc, vertices))
 }
 
 /// The game's part that the mask has, which has to be a subgame.
@@ -67,20 +66,14 @@ pub fn inside_of<'g>(rt: &impl Abort, game: &'g Game, mask: Mask) -> Inside<'g>
 pub fn whole<'g>(rt: &impl Abort, alloc: Global, game: &'g Game) -> Inside<'g>
     ensures { result.graph ≡ game.now }
 {
-    match Mask::full(alloc, game.len()) {
-        Ok(mask) => inside_of(rt, game, mask),
-        Err(_) => inside_of(rt, game, Mask::full(alloc, game.len()).expect(rt, "memory")),
-    }
+    inside_of(rt, game, Mask::full(alloc, game.len()).expect(rt, "memory"))
 }
 
 /// The mask with the members of a set.
 pub fn mask(rt: &impl Abort, alloc: Global, game: &Game, members: u32) -> Mask
     ensures { length result ≡ length game.now }
 {
-    match mask_of(alloc, game.len(), members) {
-        Ok(mask) => mask,
-        Err(_) => mask_of(alloc, game.len(), members).expect(rt, "memory"),
-    }
+    mask_of(alloc, game.len(), members).expect(rt, "memory")
 }
 
 /// The game's part with the members of a set.
@@ -148,7 +141,7 @@ pub fn formed(rt: &impl Abort, alloc: Global, form: Form, n: u32) -> Game {
 
 /// 200 vertices, of which each is Even's, has an odd priority and leads to all.
 pub fn dense(rt: &impl Abort, alloc: Global) -> Game {
-    made(rt, twice!(dense_of(alloc, 200)))
+    made(rt, dense_of(alloc, 200))
 }
 
 fn dense_of(alloc: Global, n: u32) -> Result<Game, GameFault> {

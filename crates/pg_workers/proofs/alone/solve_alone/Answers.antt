@@ -3,7 +3,8 @@ use Rattle.pg_workers.proofs.Common.{◌≡◌, ℕ, length, ap, arith, Some, sl
 use Rattle.pg_text.specs.declared.solution_text.Solution.{Solution}
 use Rattle.pg_board.specs.State.{State}
 use Rattle.pg_board.specs.Finish.{number_unsettled}
-use Rattle.pg_board.proofs.UnsettledNumber.{gives_up_before}
+use Rattle.pg_board.specs.Journal.{number_settled}
+use Rattle.pg_board.proofs.UnsettledNumber.{gives_up_before, open_priorities}
 use Rattle.pg_workers.specs.KnownRegions.{KeepsKnown}
 use Rattle.pg_workers.proofs.alone.solve_alone.Goals as goal
 
@@ -20,5 +21,9 @@ returns-clause-kept c = known_kept _ _ _ _ c.in_ok-board.ensures.known.states c.
 pub returns-clause-limited : goal.returns-clause-limited
 returns-clause-limited c = λ none.
     let board = c.in_ok-board.board in
-    let same : length board.graph ≡ length c.args.of.now.game.now = ap (λ (g : Graph). length g) c.in_ok-board.ensures.game in
-    gives_up_before c.args.limit (number_unsettled board) (length c.args.of.now.game.now) (omega (arith, same)) (c.in_ok-solve_board.ensures.limited none)
+    let same : length board.graph ≡ length c.args.of.now.game.now = ap (λ (g : Graph). length g) c.in_ok-board.ensures.game in (
+      number_settled board.journal,
+      c.in_ok-board.ensures.known.number,
+      gives_up_before c.args.limit _ _ (number_unsettled board) _ (open_priorities board c.args.of.now.game.now c.in_ok-board.ensures.game) (omega (arith, same))
+          (c.in_ok-solve_board.ensures.limited none),
+    )

@@ -243,7 +243,7 @@ pub fn compare_copy(rt: &impl Abort, copied: &Copied, case: &Case) {
     compare_mask(rt, copied.inside.mask(), case.vertices, settled);
 }
 
-pub fn compare_entries(rt: &impl Abort, entries: &[Entry], want: &[ExpectedEntry]) {
+fn compare_entries(rt: &impl Abort, entries: &[Entry], want: &[ExpectedEntry]) {
     check_eq!(*rt; entries.len(), want.len());
     let mut at = 0usize;
     for entry in entries {

@@ -34,17 +34,6 @@ pub const WINDING: &[Vertex] = &[
     (5, ODD, &[0]),
 ];
 
-/// Six vertices of priority 0. Each set that Even wins without leaving it has five or more, so no search finds one, and the
-/// recursion solves them in one step.
-pub const WIDE: &[Vertex] = &[
-    (0, EVEN, &[2, 3]),
-    (0, ODD, &[3, 4]),
-    (0, EVEN, &[1, 3]),
-    (0, ODD, &[1, 5]),
-    (0, EVEN, &[1, 2]),
-    (0, ODD, &[2, 3]),
-];
-
 /// The game of a table, made once more where memory was refused.
 pub fn game_made(rt: &impl Abort, alloc: Global, vertices: &[Vertex]) -> Game {
     match game_of(alloc, vertices) {

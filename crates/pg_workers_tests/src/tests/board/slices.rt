@@ -1,4 +1,5 @@
-//! Sessions that are settled in slices, against `finish` on a session of the same game with the same posts.
+//! Sessions that are settled in slices, against `finish` on a session of the same game with the same posts, and against the game
+//! alone.
 
 use crate::tests::asserting::made;
 use crate::tests::board::games::plain_game;
@@ -6,6 +7,8 @@ use pg_board::{Entry, Session};
 use pg_dominion::Claim;
 use pg_game::{Player, Sequence};
 use pg_test_support::{EVEN, ODD, Plain, Random, Row, bit, check, check_eq, has, size_of};
+use pg_text::Known;
+use pg_workers::{KnownOf, solve_alone};
 use std::alloc::Global;
 use std::process::Abort;
 
@@ -150,6 +153,36 @@ fn slices_post_the_same_as_finish_and_take_as_many_steps(rt: HostRuntime) {
         }
     }
     check!(rt; of_many_steps > 50, of_many_steps);
+}
+
+/// Compares the steps that slices of a game take with those that it takes alone, of which nothing is known. Returns them.
+fn compare_alone(rt: &impl Abort, alloc: Global, random: &mut Random) -> u64 {
+    let plain = large_game(rt, alloc, random);
+    let mut sliced = session_of(rt, alloc, plain.as_slice());
+    let taken = steps_of_slices(rt, alloc, random, &mut sliced);
+    let of = KnownOf {
+        game: sliced.game(),
+        known: &Known {
+            rows: Sequence::new(Vec::new(alloc)),
+        },
+    };
+    if taken > 0 {
+        check!(*rt; made(rt, solve_alone(alloc, &of, Some(taken.wrapping_sub(1)))).is_none());
+    }
+    check!(*rt; made(rt, solve_alone(alloc, &of, Some(taken))).is_some());
+    taken
+}
+
+#[test]
+fn a_game_alone_takes_as_many_steps_as_slices(rt: HostRuntime) {
+    let mut random = Random::new(20_261_132);
+    let mut of_many_steps = 0u32;
+    for _game in 0..100 {
+        if compare_alone(&rt, rt.alloc(), &mut random) > 3 {
+            of_many_steps = of_many_steps.saturating_add(1);
+        }
+    }
+    check!(rt; of_many_steps > 5, of_many_steps);
 }
 
 /// A session with the same entries, of which each is posted anew.

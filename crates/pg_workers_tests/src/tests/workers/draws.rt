@@ -46,7 +46,7 @@ fn next(jobs: &Jobs, ticket: &mut Ticket) -> Option<u64>
 }
 
 /// Draws, and compares the number.
-pub fn draws(rt: &impl Abort, jobs: &Jobs, ticket: &mut Ticket, want: Option<u64>)
+fn draws(rt: &impl Abort, jobs: &Jobs, ticket: &mut Ticket, want: Option<u64>)
     requires { ticket.old.series ≡ jobs.now.series }
     ensures { ticket.new.series ≡ ticket.old.series }
 {
@@ -54,7 +54,7 @@ pub fn draws(rt: &impl Abort, jobs: &Jobs, ticket: &mut Ticket, want: Option<u64
 }
 
 /// Compares what a ticket has drawn.
-pub fn has_drawn(rt: &impl Abort, ticket: &Ticket, want: &[u64]) {
+fn has_drawn(rt: &impl Abort, ticket: &Ticket, want: &[u64]) {
     check_eq!(*rt; ticket.drawn(), want);
 }
 

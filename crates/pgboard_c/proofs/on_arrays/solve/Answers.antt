@@ -1,8 +1,11 @@
 use Rattle.pgboard_c.proofs.Common.{◌≡◌, ◌∙◌, ℕ, [], length, refl, subst, arith, rules, Graph, IsExactSolution, no_choice}
 use Rattle.std.specs.Prelude.{Option, IsNone}
+use Rattle.pg_game.specs.VertexSet.{all_vertices}
+use Rattle.pg_finders.specs.Steps.{priority_count}
 use Rattle.pg_board.specs.BoardRecord.{BoardRecord}
 use Rattle.pg_board.specs.Journal.{number_settled}
-use Rattle.pg_board.specs.Finish.{MayGiveUp, number_unsettled}
+use Rattle.pg_board.specs.Finish.{MayGiveUp, number_unsettled, priorities_unsettled}
+use Rattle.pg_board.proofs.UnsettledNumber.{gives_up_before, open_priorities}
 use Rattle.pgboard_c.proofs.arrays.ChoiceNumbers.{choices_below}
 use Rattle.pgboard_c.proofs.on_arrays.solve.Goals as goal
 
@@ -14,13 +17,13 @@ write_results-requires-clause-below c =
     choices_below _ _ no_choice c.in_ok-forward.ensures.game.1 exact c.in_ok-check_lengths.ensures.few
 
 -- on a new board all vertices are unsettled
-all_unsettled : (b : BoardRecord) (g : Graph) (limit : Option ℕ) → b.graph ≡ g → b.journal ≡ [] → MayGiveUp limit (number_unsettled b)
-    → MayGiveUp limit (length g)
+all_unsettled : (b : BoardRecord) (g : Graph) (limit : Option ℕ) → b.graph ≡ g → b.journal ≡ [] → MayGiveUp limit (priorities_unsettled b) (number_unsettled b)
+    → MayGiveUp limit (priority_count g (all_vertices g)) (length g)
 all_unsettled b g limit graph journal h =
     let none : number_settled b.journal ≡ 0 = rw journal refl in
     let same : length b.graph ≡ length g = rw graph refl in
     let all : number_unsettled b ≡ length g = omega (arith, none, same) in
-    subst (λ (n : ℕ). MayGiveUp limit n) all h
+    gives_up_before limit _ _ _ _ (open_priorities b g graph) (omega (arith, all)) h
 
 pub returns-in_default : goal.returns-in_default
 returns-in_default c =

@@ -1,9 +1,10 @@
-use Rattle.pg_board.proofs.Common.{refl, rules, length, subst, ap, ◌∙◌, ◌≡◌, IsLawful, BoardRecord}
+use Rattle.pg_board.proofs.Common.{refl, rules, length, subst, ap, ◌∙◌, ◌≡◌, IsLawful, BoardRecord, arith}
 use Rattle.std.specs.Prelude.{IsSome}
-use Rattle.pg_game.specs.VertexSet.{how_many}
-use Rattle.pg_board.specs.Finish.{number_unsettled}
+use Rattle.pg_game.specs.VertexSet.{how_many, members}
+use Rattle.pg_board.specs.Finish.{number_unsettled, priorities_unsettled}
+use Rattle.pg_finders.specs.Steps.{priority_count}
 use Rattle.pg_board.proofs.OwnEntries.{none_later, shared_out}
-use Rattle.pg_board.proofs.UnsettledNumber.{how_many-unsettled, gives_up_before, may_give_up}
+use Rattle.pg_board.proofs.UnsettledNumber.{how_many-unsettled, same_priorities, no_member, gives_up_before, may_give_up}
 use Rattle.pg_board.proofs.board.Board.post_rest.Goals as goal
 
 pub returns-then-is_full-clause-later : goal.returns-then-is_full-clause-later
@@ -29,5 +30,8 @@ returns-in_default-clause-limited c = λ gave_up.
     let sized : length inside.mask ≡ length c.args.self.now.graph = c.in_ok-copied.ensures.part.size ∙ ap length c.in_ok-copied.ensures.graph in
     let few = how_many-unsettled c.args.self.now inside.mask lawful sized c.in_ok-copied.ensures.mask in
     let none : IsSome c.in_ok-solved.field-0 → ⊥ = search rules in
-    gives_up_before c.args.limit (how_many inside.mask) (number_unsettled c.args.self.now) few
-    (may_give_up c.args.limit (how_many inside.mask) (IsSome c.in_ok-solved.field-0) none c.in_ok-solved.ensures.unlimited c.in_ok-solved.ensures.enough)
+    let open_only = same_priorities c.args.self.now inside.graph inside.mask c.in_ok-copied.ensures.graph c.in_ok-copied.ensures.mask in
+    gives_up_before c.args.limit (priority_count inside.graph (members inside.mask)) (priorities_unsettled c.args.self.now) (how_many inside.mask)
+    (number_unsettled c.args.self.now) (omega (arith, open_only)) few
+    (may_give_up c.args.limit _ (how_many inside.mask) (IsSome c.in_ok-solved.field-0) none
+    (λ empty. c.in_ok-solved.ensures.nothing (no_member inside.mask empty)) c.in_ok-solved.ensures.unlimited c.in_ok-solved.ensures.enough)

@@ -1,6 +1,6 @@
-use Rattle.pg_board.proofs.Common.{◌≡◌, ◌≤◌, ◌+◌, ◌-◌, ℕ, false, ap, rules, state_of, IsFull, arith, arc_value}
+use Rattle.pg_board.proofs.Common.{◌≡◌, ◌≤◌, ◌+◌, ◌-◌, ℕ, false, ap, rules, state_of, IsFull, In, unsettled, arith, arc_value}
 use Rattle.pg_board.specs.BoardRecord.{SessionRecord}
-use Rattle.pg_board.specs.Slices.{slices_left}
+use Rattle.pg_board.specs.Slices.{slices_left, IsCharged, IsLastCharged}
 use Rattle.pg_board.proofs.Slices.{still_open, in_session, charged_in_session}
 use Rattle.pg_board.proofs.session.Session.advance.Goals as goal
 
@@ -32,6 +32,16 @@ pub returns-clause-charged : goal.returns-clause-charged
 returns-clause-charged c = λ open_still.
     let graph : c.attach-board.result.graph ≡ arc_value c.self.inside.game = search rules in
     let stage : c.replace-stage.result ≡ c.self.inside.stage = search rules in
-    charged_in_session _ _ _ _ c.args.self.now c.args.steps.now c.advance-answer.new.steps graph stage
+    charged_in_session (λ n k. IsCharged n k c.args.steps.now c.advance-answer.new.steps) _ _ _ _ c.args.self.now graph stage
     (ap (λ (x : SessionRecord). x.board.graph) c.self.view_is) (ap (λ (x : SessionRecord). x.slices) c.self.view_is)
     (c.in_ok-self-inside.ensures.charged (not_full c open_still))
+
+pub returns-clause-last : goal.returns-clause-last
+returns-clause-last c = λ done v o.
+    let graph : c.attach-board.result.graph ≡ arc_value c.self.inside.game = search rules in
+    let stage : c.replace-stage.result ≡ c.self.inside.stage = search rules in
+    let full : IsFull c.advance-answer.new.self.graph (state_of c.advance-answer.new.self.journal) = search rules in
+    let before : In (unsettled c.attach-board.result.graph (state_of c.attach-board.result.journal)) v = search rules in
+    charged_in_session (λ n k. IsLastCharged n k c.args.steps.now c.advance-answer.new.steps) _ _ _ _ c.args.self.now graph stage
+    (ap (λ (x : SessionRecord). x.board.graph) c.self.view_is) (ap (λ (x : SessionRecord). x.slices) c.self.view_is)
+    (c.in_ok-self-inside.ensures.last full v before)

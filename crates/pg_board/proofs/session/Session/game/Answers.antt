@@ -1,4 +1,4 @@
-use Rattle.pg_board.proofs.Common.{subst, length, ◌≤◌, Graph, Option, None, Some}
+use Rattle.pg_board.proofs.Common.{subst, ◌≤◌, Graph, Option, None, Some}
 use Rattle.pg_board.specs.Board.{IsLawfulBoard}
 use Rattle.pg_board.specs.BoardRecord.{SessionRecord, journal_of}
 use Rattle.pg_board.specs.declared.contents.Contents.{Contents}
@@ -18,4 +18,4 @@ returns-clause-board c = subst (λ (x : SessionRecord). IsLawfulBoard x.board) c
 
 pub returns-clause-slices : goal.returns-clause-slices
 returns-clause-slices c =
-    subst (λ (x : SessionRecord). x.slices ≤ most_slices (length x.board.graph)) c.self.view_is (slices_within _ _ _ c.self.invariant.1)
+    subst (λ (x : SessionRecord). x.slices ≤ most_slices x.board.graph) c.self.view_is (slices_within _ _ _ c.self.invariant.1)

@@ -1,9 +1,11 @@
-use Rattle.pg_finders.proofs.Common.{◌≡◌, ◌<◌, ◌≤◌, ◌∙◌, ℕ, Option, None, Some, Graph, VertexSet, In, length, take, vec_len, arith, refl, sym, ap, on_ok_weaker, member_below}
+use Rattle.pg_finders.proofs.Common.{◌≡◌, ◌<◌, ◌∙◌, ℕ, Option, None, Some, Graph, VertexSet, In, length, arith, refl, sym, ap, subst, on_ok_weaker, or_left}
+use Rattle.pg_finders.proofs.Common.{member_below, settled_of}
 use Rattle.std.specs.Option.{IsSome}
 use Rattle.pg_finders.specs.declared.recursion.Solver.{Solver}
 use Rattle.pg_finders.specs.private.Solved.{IsTop}
+use Rattle.pg_finders.specs.private.recursion.Parts.{BeginsAgain}
 use Rattle.pg_finders.proofs.Sets.{no_both}
-use Rattle.pg_finders.proofs.recursion.ActivePart.{BeginsPart, begins_length, order_fewer, entered, entered_fewer}
+use Rattle.pg_finders.proofs.recursion.ActivePart.{BeginsPart, running_parts, greatest_below, begins_part, entered, entered_fewer}
 use Rattle.pg_finders.proofs.recursion.Solver.enter.Goals as goal
 
 -- where a vertex is active, there is a greatest priority
@@ -17,54 +19,51 @@ unwrap-top-requires c =
     let l = member_below c.args.self.now.parts.subgame.active s.0 s.1 in
     top_some _ _ _ c.top.result c.top.ensures.top s.0 s.1 (omega (arith, l, c.requires.running.sizes.active))
 
+-- nothing is settled from its end on
+none_at : (c : goal.After-begin-arg-2-1) → c.end-none.result.from ≡ length (settled_of c.args.self.now.parts.settled c.end-none.result.player)
+none_at c = c.end-none.ensures.from ∙ ap (λ p. length (settled_of c.args.self.now.parts.settled p)) (sym c.end-none.ensures.player)
+
+pub begin-requires-clause-parts : goal.begin-requires-clause-parts
+begin-requires-clause-parts c = running_parts c.requires.running
+
+pub begin-requires-clause-below : goal.begin-requires-clause-below
+begin-requires-clause-below c = rw c.deref.ensures.value (greatest_below c.requires.running c.in_ok-list_greatest.ensures.greatest)
+
+pub begin-requires-clause-once : goal.begin-requires-clause-once
+begin-requires-clause-once c = rw c.deref.ensures.value c.in_ok-list_greatest.ensures.greatest.once
+
+pub begin-requires-clause-tops : goal.begin-requires-clause-tops
+begin-requires-clause-tops c v t i = (let w = c.requires.running.subgame.successor v i in (w.0, w.1, or_left _ _ w.2))
+
+pub begin-requires-clause-others : goal.begin-requires-clause-others
+begin-requires-clause-others c v i n o = c.requires.running.subgame.successor v i
+
 pub wait-requires : goal.wait-requires
-wait-requires c =
-    let a : c.len-tops.result ≡ vec_len c.list_greatest.new.list = c.len-tops.ensures in
-    omega (arith, a, c.list_greatest.new.list.ok, begins_length c.list_greatest.new.list.items c.begin.new.list.items c.in_ok-begin.ensures.tops)
+wait-requires c = c.in_ok-tops.ensures.begins.few
 
 abbrev After : Type 0
 After = goal.After-wait
 
-count_is : (c : After) → c.len-tops.result ≡ length c.list_greatest.new.list.items
-count_is c = let a : c.len-tops.result ≡ vec_len c.list_greatest.new.list = c.len-tops.ensures in omega (arith, a, c.list_greatest.new.list.ok)
-
--- the first of the listed are the greatest
-tops : (c : After) → take c.len-tops.result c.begin.new.list.items ≡ c.list_greatest.new.list.items
-tops c = ap (λ n. take n c.begin.new.list.items) (count_is c) ∙ c.in_ok-begin.ensures.tops
-
-few : (c : After) → c.len-tops.result ≤ length c.begin.new.list.items
-few c = omega (arith, count_is c, begins_length c.list_greatest.new.list.items c.begin.new.list.items c.in_ok-begin.ensures.tops)
-
 -- the solver before its part waits
 abbrev begun : After → Solver
 begun c = record c.args.self.now {
-  parts = record c.args.self.now.parts { subgame = c.begin.new.self };
+  parts = c.begin.new.self;
   order = c.list_greatest.new.self;
+  opened = c.list_greatest.new.list;
   list = c.begin.new.list;
 }
 
-begins : (c : After) → BeginsPart c.args.view.now.game.now c.of_parity-player.result c.len-tops.result c.count-even.result c.count-odd.result
+begins : (c : After) → BeginsPart c.args.view.now.game.now c.of_parity-player.result c.in_ok-tops.tops c.count-even.result c.count-odd.result
     c.args.self.now (begun c)
-begins c = record {
-  settled = refl;
-  set_aside = refl;
-  frames = refl;
-  size = refl;
-  order = order_fewer c.in_ok-begin.ensures.fewer c.in_ok-list_greatest.ensures.order;
-  ready = c.in_ok-begin.ensures.ready;
-  few = few c;
-  begun = rw (tops c) c.in_ok-begin.ensures.begun;
-  listed_is = c.in_ok-begin.ensures.listed;
-  same = c.in_ok-begin.ensures.same;
-  even_is = c.count-even.ensures;
-  odd_is = c.count-odd.ensures;
-}
+begins c = begins_part c.requires.running (begun c) c.end-none.ensures.player
+    (c.end-none.ensures.from ∙ ap (λ p. length (settled_of c.args.self.now.parts.settled p)) (sym c.end-none.ensures.player))
+    (sym c.of_parity-player.ensures) c.in_ok-list_greatest.ensures.greatest
+    (subst (λ xs. BeginsAgain c.args.view.now.game.now c.end-none.result xs c.args.self.now.parts c.begin.new.self c.begin.new.list.items c.in_ok-tops.tops)
+    c.deref.ensures.value c.in_ok-tops.ensures.begins) c.in_ok-tops.ensures.parts c.in_ok-list_greatest.ensures.order refl refl refl
+    c.count-even.ensures c.count-odd.ensures
 
 pub returns-clause-running : goal.returns-clause-running
 returns-clause-running c = on_ok_weaker c.wait.result (λ w. entered c.requires.running w (begins c)) c.wait.ensures.waits
 
 pub returns-clause-fewer : goal.returns-clause-fewer
 returns-clause-fewer c = on_ok_weaker c.wait.result (λ w. entered_fewer c.requires.running w (begins c)) c.wait.ensures.waits
-
-pub begin-requires-clause-greatest : goal.begin-requires-clause-greatest
-begin-requires-clause-greatest c = (c.unwrap-top.result, sym c.of_parity-player.ensures, c.in_ok-list_greatest.ensures.greatest)

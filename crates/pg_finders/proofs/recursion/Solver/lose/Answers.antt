@@ -1,8 +1,8 @@
-use Rattle.pg_finders.proofs.Common.{◌-◌, refl, ◌∙◌, ap, count_at, length}
+use Rattle.pg_finders.proofs.Common.{◌-◌, refl, ◌∙◌, ap}
 use Rattle.pg_finders.specs.private.recursion.Shrunk.{aside_of}
 use Rattle.pg_finders.proofs.recursion.LoopSteps.{end_counts}
 use Rattle.pg_finders.proofs.recursion.ShrunkParts.{attract_apart, attract_at_most}
-use Rattle.pg_finders.proofs.recursion.ShrunkSolver.{with_active, attracts_for, fits, below, IsFreed, shared, reopened}
+use Rattle.pg_finders.proofs.recursion.ShrunkSolver.{with_active, fits, below, IsFreed, shared, reopened}
 use Rattle.pg_finders.proofs.recursion.Solver.lose.Goals as goal
 
 pub aside-aside-requires : goal.aside-aside-requires
@@ -10,16 +10,14 @@ aside-aside-requires c = (fits c.requires c.deref.ensures.value).1
 
 pub insert_all-requires : goal.insert_all-requires
 insert_all-requires c = below c.requires (c.args.frame.upto - c.args.frame.set_aside)
-    (c.aside-aside.ensures ∙ ap (aside_of c.args.frame) c.deref.ensures.value)
-    (ap (λ s. length s.active) c.free_from.ensures.subgame ∙ c.requires.running.sizes.active)
+    (c.aside-aside.ensures ∙ ap (aside_of c.args.frame) c.deref.ensures.value) c.requires.running.sizes.active
 
 abbrev Start : Type 0
 Start = goal.After-attract-arg-2-1
 
-freed : (c : Start) → IsFreed c.requires (with_active c.free_from.new.self c.insert_all.new.mask)
-freed c = reopened c.requires c.free_from.new.self c.insert_all.new.mask
-    (c.aside-aside.ensures ∙ ap (aside_of c.args.frame) c.deref.ensures.value) c.free_from.ensures.player (c.free_from.ensures.from ∙ c.count.ensures)
-    c.free_from.ensures.subgame c.free_from.ensures.settled c.insert_all.ensures.length c.insert_all.ensures.has
+freed : (c : Start) → IsFreed c.requires (with_active c.args.self.now.parts c.insert_all.new.mask)
+freed c = reopened c.requires c.insert_all.new.mask (c.aside-aside.ensures ∙ ap (aside_of c.args.frame) c.deref.ensures.value)
+    c.insert_all.ensures.length c.insert_all.ensures.has
 
 pub attract-requires-clause-parts : goal.attract-requires-clause-parts
 attract-requires-clause-parts c = (freed c).parts
@@ -29,27 +27,23 @@ attract-requires-clause-below c = below c.requires (c.args.frame.upto - c.args.f
     (c.aside-aside.ensures ∙ ap (aside_of c.args.frame) c.deref.ensures.value) refl
 
 pub attract-requires-clause-apart : goal.attract-requires-clause-apart
-attract-requires-clause-apart c = rw (c.count-2.ensures, c.other-other.ensures)
-    (attract_apart (shared c.requires) (freed c))
+attract-requires-clause-apart c = rw (c.tail-won.ensures, c.tail-lost.ensures, c.other.ensures) (attract_apart (shared c.requires) (freed c))
 
 pub attract-requires-clause-from : goal.attract-requires-clause-from
-attract-requires-clause-from c = rw (c.count-2.ensures, c.free_from.ensures.settled)
-    (end_counts c.requires c.other-other.result)
+attract-requires-clause-from c = rw c.tail-lost.ensures (end_counts c.requires c.other.result)
 
 pub attract-requires-clause-at_most : goal.attract-requires-clause-at_most
-attract-requires-clause-at_most c = rw (c.count-2.ensures, c.other-other.ensures, c.aside-aside.ensures, c.deref.ensures.value)
+attract-requires-clause-at_most c = rw (c.tail-won.ensures, c.tail-lost.ensures, c.other.ensures, c.aside-aside.ensures, c.deref.ensures.value)
     (attract_at_most (shared c.requires) (freed c))
 
 pub returns : goal.returns
 returns c = record {
   loses = record {
-    freed = with_active c.free_from.new.self c.insert_all.new.mask;
-    reopened = reopened c.requires c.free_from.new.self c.insert_all.new.mask
-        (c.aside-aside.ensures ∙ ap (aside_of c.args.frame) c.deref.ensures.value) c.free_from.ensures.player (c.free_from.ensures.from ∙ c.count.ensures)
-        c.free_from.ensures.subgame c.free_from.ensures.settled c.insert_all.ensures.length c.insert_all.ensures.has;
-    settled = c.free_from.ensures.settled;
-    from = c.free_from.ensures.from ∙ c.count.ensures;
-    attracts = attracts_for c.other-other.ensures (c.count-2.ensures ∙ ap (count_at c.args.frame) c.other-other.ensures) c.in_ok-attract.ensures.attracts;
+    freed = with_active c.args.self.now.parts c.insert_all.new.mask;
+    reopened = reopened c.requires c.insert_all.new.mask (c.aside-aside.ensures ∙ ap (aside_of c.args.frame) c.deref.ensures.value)
+        c.insert_all.ensures.length c.insert_all.ensures.has;
+    settled = refl;
+    attracts = rw (c.tail-won.ensures, c.tail-lost.ensures, c.other.ensures) at c.in_ok-attract.ensures.attracts;
     parts = c.in_ok-attract.ensures.parts;
     kept = record { frames = refl; set_aside = refl; order = refl; opened = refl; size = refl };
   };

@@ -1,4 +1,4 @@
-use Rattle.pg_finders.proofs.Common.{◌≡◌, how_many, sym, ◌∙◌, ap, refl, subst, members, IsSubgame, IsOrder, arith}
+use Rattle.pg_finders.proofs.Common.{◌≡◌, how_many, sym, ◌∙◌, ap, refl, subst, members, IsSubgame, IsOrder, arith, priority_count}
 use Rattle.pg_finders.proofs.recursion.StepBounds.{work_start}
 use Rattle.pg_finders.proofs.DeadEnds.{subgame_of}
 use Rattle.pg_finders.proofs.recursion.LoopSteps.{open_levels_start}
@@ -22,4 +22,4 @@ returns-clause-running c =
 pub returns-clause-work : goal.returns-clause-work
 returns-clause-work c =
     let n = how_many c.args.view.now.mask.now in
-    work_start n _ n _ (omega arith) c.in_ok-frames.ensures.items
+    work_start (priority_count c.args.view.now.game.now (members c.args.view.now.mask.now)) n _ n _ (omega arith) c.in_ok-frames.ensures.items

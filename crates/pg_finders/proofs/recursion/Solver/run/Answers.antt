@@ -1,9 +1,10 @@
 use Rattle.pg_finders.proofs.Common.{◌≡◌, ◌+◌, ◌-◌, ◌<◌, ◌≤◌, ℕ, zero, suc, List, [], ◌∷◌, ◌++◌, length, take, refl, sym, ◌∙◌, ap, arith, take_all, Frame}
-use Rattle.pg_finders.proofs.Common.{Option, None, Some, AreFewer, number_left}
+use Rattle.pg_finders.proofs.Common.{Option, None, Some, AreFewer, HasStepped, number_left, inl, inr, true, false}
 use Rattle.std.proofs.lemmas.List.{take_more}
 use Rattle.std.proofs.lemmas.Option.{slice_get_within, slice_get-get_or, get_or_from_slice_get}
 use Rattle.std.specs.List.{slice_get}
 use Rattle.pg_finders.specs.private.recursion.SolverState.{after_step}
+use Rattle.pg_finders.proofs.Sets.{no_both}
 use Rattle.pg_finders.proofs.recursion.LoopSteps.{open_levels_done}
 use Rattle.pg_finders.proofs.recursion.Solver.run.Goals as goal
 
@@ -38,6 +39,12 @@ step_spent None before after given whole some l h = omega (arith, l, h)
 step_spent (Some zero) before after given whole some l h = absurd (some refl)
 step_spent (Some (suc n)) before after given whole some l h = omega (arith, l, h)
 
+step_taken : (given left : Option ℕ) → AreFewer given left → (left ≡ Some 0 → ⊥) → HasStepped given (after_step left)
+step_taken None left h some = tt
+step_taken (Some n) None h some = absurd (let e : false ≡ true = h.1 in cc e)
+step_taken (Some n) (Some zero) h some = absurd (some refl)
+step_taken (Some n) (Some (suc m)) h some = (omega (arith, h.0), refl)
+
 pub steps-preserved-then-has_more : goal.steps-preserved-then-has_more
 steps-preserved-then-has_more c =
     let i = c.steps.invariant in
@@ -46,10 +53,26 @@ steps-preserved-then-has_more c =
       running = c.in_ok-enter.ensures.running;
       fewer = rw c.take_step.ensures.one (fewer_left c.args.left.now c.steps.left i.fewer);
       spends = rw c.take_step.ensures.one (step_spent c.steps.left _ _ _ _ some c.in_ok-enter.ensures.fewer i.spends);
-      no_steps = λ e v m. absurd (some (i.no_steps e v m).0);
+      charged = λ v m. inl (rw c.take_step.ensures.one (step_taken c.args.left.now c.steps.left i.fewer some));
+    }
+
+pub steps-preserved : goal.steps-preserved
+steps-preserved c =
+    let i = c.steps.invariant in
+    record {
+      running = c.in_ok-leave.ensures.running;
+      fewer = i.fewer;
+      spends = omega (arith, i.spends, c.in_ok-leave.ensures.fewer);
+      charged = λ v m. elim (i.charged v m) [ inl t ↦ inl t | inr a ↦ absurd (no_both a (c.has_more.ensures.none c.if-has_more.false v)) ];
     }
 
 pub returns-clause-solved : goal.returns-clause-solved
 returns-clause-solved c _ =
     let none = no_last c.steps.self.frames.items (sym (rw (c.deref.ensures.value, c.in_default.is) at c.last.ensures.value)) in
     open_levels_done c.steps.invariant.running.open_levels none (c.has_more.ensures.none c.if-has_more.false)
+
+pub returns-clause-charged : goal.returns-clause-charged
+returns-clause-charged c _ v m = elim (c.steps.invariant.charged v m) [
+  | inl t ↦ t
+  | inr a ↦ absurd (no_both a (c.has_more.ensures.none c.if-has_more.false v))
+]

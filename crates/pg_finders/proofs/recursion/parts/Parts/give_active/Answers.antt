@@ -22,13 +22,11 @@ loop-v-preserved c =
             parts = written_parts w.free_successor-choice.new.self w.write.new.self found.parts written.winners written.choices;
             found = found.found;
             none = found.none;
-            winner = written.winner ∙ found.player;
+            winner = written.winner;
             choice_is = written.choice;
             elsewhere = λ u n. subst (λ plan. SameAt plan w.write.new.self u) found.plan (written.elsewhere u n);
             active = found.active;
             settled = found.settled;
-            player = found.player;
-            from = found.from;
           })))
       | else-has w ↦ rw (w.self-is, w.list-is) (gives_not vs i l old (sym same ∙ w.if-has.false))
     ]

@@ -6,7 +6,7 @@ use Rattle.pg_finders.proofs.recursion.parts.Parts.open_back.Goals as goal
 pub list-init : goal.list-init
 list-init c = record {
   parts = c.requires.parts;
-  opened = opened_none c.args.self.now c.args.list.now.items;
+  opened = opened_none c.args.won c.args.self.now c.args.list.now.items;
   inside = omega arith;
   none = λ k l v r. absurd (omega (arith, l));
 }
@@ -38,10 +38,10 @@ list-preserved c =
 pub returns-after-list-clause-none : goal.returns-after-list-clause-none
 returns-after-list-clause-none c =
     let l : length c.list.list.items ≤ c.list.next = omega (arith, c.list-test.false, c.list.list.ok, c.list.list.small) in
-    none_rests c.args.game.now c.list.self 0 c.list.list.items c.list.next l (λ k m. c.list.invariant.none k)
+    none_rests c.args.game.now c.args.won c.list.self 0 c.list.list.items c.list.next l (λ k m. c.list.invariant.none k)
 
 pub returns-then-next-len-clause-none : goal.returns-then-next-len-clause-none
 returns-then-next-len-clause-none c =
     let n : c.len.result ≡ vec_len c.list.list = c.len.ensures in
     let l : length c.list.list.items ≤ c.list.next = omega (arith, n, c.list.list.ok, c.if-next-len.true) in
-    none_rests c.args.game.now c.list.self 0 c.list.list.items c.list.next l (λ k m. c.list.invariant.none k)
+    none_rests c.args.game.now c.args.won c.list.self 0 c.list.list.items c.list.next l (λ k m. c.list.invariant.none k)

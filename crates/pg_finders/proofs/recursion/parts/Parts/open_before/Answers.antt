@@ -10,7 +10,7 @@ use Rattle.pg_finders.proofs.recursion.parts.Parts.open_before.Goals as goal
 pub loop-v-init : goal.loop-v-init
 loop-v-init c = record {
   parts = c.requires.parts;
-  opened = opened_none c.args.self.now c.args.list.now.items;
+  opened = opened_none c.args.won c.args.self.now c.args.list.now.items;
   none = λ k l r. absurd (omega (arith, l));
 }
 
@@ -20,7 +20,7 @@ rests_on-requires-clause-edge c =
     (row.ensures.exact _).0 (Contains-get_or row.result.now c.loop-v.v-index 0 c.loop-v-test.true)
 
 pub remove-requires-clause-listed : goal.remove-requires-clause-listed
-remove-requires-clause-listed c = in_drop c.loop-v.self.from (settled_of c.loop-v.self.settled c.loop-v.self.player) _
+remove-requires-clause-listed c = in_drop c.args.won.from (settled_of c.loop-v.self.settled c.args.won.player) _
     (c.rests_on.ensures.yes c.if-rests_on.true).0
 
 pub loop-v-preserved : goal.loop-v-preserved
@@ -37,9 +37,9 @@ loop-v-preserved c =
           let h = w.remove.ensures in
           let placed = h.placed (length g) old.parts.placed in
           rw (w.self-is, w.list-is) (rw (w.insert.ensures, w.in_ok-push.ensures.items) record {
-            parts = opened_parts old.parts v i settled placed h.own h.other;
-            opened = opened_then old.opened (opened_one old.parts v i settled placed h.own h.other c.loop-v.list.items);
-            none = opened_row old.parts v i settled placed h.own h.other g row at c.args.to refl old.none;
+            parts = opened_parts c.args.won old.parts v i settled placed h.own h.other;
+            opened = opened_then old.opened (opened_one c.args.won old.parts v i settled placed h.own h.other c.loop-v.list.items);
+            none = opened_row c.args.won old.parts v i settled placed h.own h.other g row at c.args.to refl old.none;
           }))
       | else-rests_on w ↦ rw (w.self-is, w.list-is) record {
         parts = old.parts;
@@ -54,4 +54,4 @@ returns-clause-none c v r =
     let m = (c.predecessors-v-items.ensures.exact v).1 r.1 in
     let q : slice_index us m.0 ≡ v = get_or_default us m.0 0 v m.1 ∙ m.2 in
     c.loop-v.invariant.none m.0 (omega (arith, m.1, c.loop-v-test.false))
-    (subst (λ u. RestsOn c.args.game.now c.loop-v.self u c.args.to) (sym q) r)
+    (subst (λ u. RestsOn c.args.game.now c.args.won c.loop-v.self u c.args.to) (sym q) r)

@@ -5,6 +5,6 @@ use Rattle.pg_finders.proofs.recursion.parts.Parts.open_before.Given as goal
 abbrev pub invariant-loop-v : goal.invariant-loop-v
 invariant-loop-v l = record {
   parts : AreParts (length l.game) l.self;
-  opened : HasOpened l.fn.self l.fn.list.items l.self l.list.items;
-  none : (k : ℕ) → k < l.v-index → RestsOn l.game l.self (slice_index l.v-items k) l.to → ⊥;
+  opened : HasOpened l.won l.fn.self l.fn.list.items l.self l.list.items;
+  none : (k : ℕ) → k < l.v-index → RestsOn l.game l.won l.self (slice_index l.v-items k) l.to → ⊥;
 }

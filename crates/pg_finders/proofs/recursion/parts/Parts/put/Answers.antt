@@ -6,8 +6,6 @@ pub returns-clause-fewer : goal.returns-clause-fewer
 returns-clause-fewer c =
     let fewer = c.remove.ensures.fewer in
     record {
-      player = fewer.player;
-      from = fewer.from;
       other = fewer.other;
       own = fewer.own;
       active = fewer.active;

@@ -1,4 +1,5 @@
-use Rattle.pg_finders.proofs.Common.{ℕ, ◌∙◌, refl, drop, subst, arith, below_more, get_or_default, slice_index, In, listed, settled_of, IsTested}
+use Rattle.pg_finders.proofs.Common.{ℕ, ◌∙◌, refl, subst, arith, below_more, get_or_default, slice_index, In, listed, IsTested}
+use Rattle.pg_finders.specs.private.recursion.Settled.{since}
 use Rattle.pg_finders.specs.private.recursion.Parts.{free_of, KeepsBehind}
 use Rattle.pg_finders.specs.private.recursion.KeptParts.{fewer_same, fewer_then}
 use Rattle.pg_finders.proofs.recursion.RepeatedAttraction.{tested_later, tested_before, all_listed}
@@ -8,14 +9,14 @@ use Rattle.pg_finders.proofs.recursion.parts.Parts.test_all.Goals as goal
 pub loop-v-init : goal.loop-v-init
 loop-v-init c = record {
   parts = c.requires.parts;
-  fewer = fewer_same c.args.self.now;
+  fewer = fewer_same c.args.free c.args.self.now;
   target = refl;
   grown = λ before old prefix h. h;
   tested = λ k l. absurd (omega (arith, l));
 }
 
 pub test-requires-clause-side : goal.test-requires-clause-side
-test-requires-clause-side c = side_later c.args.player c.requires.side c.loop-v.invariant.fewer
+test-requires-clause-side c = side_later c.requires.side c.loop-v.invariant.fewer
 
 pub test-requires-clause-apart : goal.test-requires-clause-apart
 test-requires-clause-apart c = λ w i.
@@ -24,19 +25,19 @@ test-requires-clause-apart c = λ w i.
 pub loop-v-preserved : goal.loop-v-preserved
 loop-v-preserved c =
     let g = c.args.game.now in
-    let p = c.args.player in
-    let first = drop c.args.from (settled_of c.args.self.now.settled p) in
-    let was = free_of c.args.self.now in
-    let mid = free_of c.loop-v.self in
-    let now = free_of c.test.new.self in
+    let p = c.args.target.player in
+    let first = since c.args.target c.args.self.now.settled in
+    let was = free_of c.args.free c.args.self.now in
+    let mid = free_of c.args.free c.loop-v.self in
+    let now = free_of c.args.free c.test.new.self in
     let old = c.loop-v.invariant in
     let h = c.in_ok-test.ensures in
     record {
       parts = h.parts;
-      fewer = fewer_then c.args.self.now c.loop-v.self c.test.new.self old.fewer h.fewer;
+      fewer = fewer_then old.fewer h.fewer;
       target = h.target ∙ old.target;
       grown = λ before o prefix t.
-          subst (λ xs. KeepsBehind g p xs c.loop-v.self c.loop-v.list.items c.test.new.self c.test.new.list.items) old.target h.grown
+          subst (λ xs. KeepsBehind g p xs c.args.free c.loop-v.self c.loop-v.list.items c.test.new.self c.test.new.list.items) old.target h.grown
           before o prefix (old.grown before o prefix t);
       tested = below_more _ _ (λ k l. tested_later g p (listed first) was mid now _ (h.fewer.free _) (old.tested k l))
           (tested_before g p (listed first) (listed first) was mid now _ (λ w n. n) (was_free old.fewer)
@@ -45,7 +46,7 @@ loop-v-preserved c =
 
 pub returns-clause-tested : goal.returns-clause-tested
 returns-clause-tested c =
-    let P = λ (v : ℕ). IsTested c.args.game.now c.args.player (listed (drop c.args.from (settled_of c.args.self.now.settled c.args.player)))
-    (free_of c.args.self.now) (free_of c.loop-v.self) v in
+    let P = λ (v : ℕ). IsTested c.args.game.now c.args.target.player (listed (since c.args.target c.args.self.now.settled))
+    (free_of c.args.free c.args.self.now) (free_of c.args.free c.loop-v.self) v in
     all_listed P c.args.vertices.now (λ k d l. subst P (get_or_default c.args.vertices.now k 0 d l)
     (c.loop-v.invariant.tested k (omega (arith, l, c.loop-v-test.false))))
