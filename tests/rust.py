@@ -119,6 +119,7 @@ class Rust(unittest.TestCase):
         linked = re.findall(rf"link-search=native=(\S+)\n.*link-lib={kind}=pgboard(?:_c)?\n", out)
         self.assertEqual((status, out.endswith(SOLVED)), (0, True), err)
         self.assertEqual(linked, [str(library)])
+        self.assertEqual(bool(re.search(r"(?m)^warning: .*unproved: ", err)), str(library).endswith("out/unproved"))
 
     def test_the_library_of_a_clone_a_proved_one_first(self):
         crate = self.put_crate("clone")

@@ -8,6 +8,7 @@ import re
 import unittest
 
 import common
+import unit
 
 theorem = common.load(common.ROOT / "tools" / "theorem")
 THEOREM = common.text_of("docs/THEOREM.md")
@@ -112,6 +113,11 @@ class Architecture(unittest.TestCase):
         every = {it for crate in [*theorem.CRATES, "pgboard_program"] for it in theorem.files(f"{crate}/src/**/*.rt")}
         names = {it.replace("/src/", "/").removesuffix(".rt") for it in every}
         self.assertEqual(shown, {it for it in names if not it.endswith("/lib")})
+
+    def test_the_tests_of_each_library_are_where_the_page_says(self):
+        rows = {crate.strip("`"): re.findall(r"`(\w+)`", cells) for crate, cells in rows_of(self.PAGE, 2)}
+        said = {it: crate for crate in rows if crate.endswith("_tests") for it in rows[crate] if it in theorem.CRATES}
+        self.assertEqual(said, {it: unit.place_of(it)[0] for it in theorem.CRATES if it != "pgboard_c"})
 
     def test_no_ring_of_modules(self):
         """The modules of a crate import one another in an order, so that each can be read after those it names."""

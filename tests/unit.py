@@ -1,5 +1,5 @@
 #!/usr/bin/env python3
-"""Runs unit tests of a crate without a proof: those in whose path the words of CRATE::NAME stand."""
+"""Runs the unit tests of a library or a crate of tests without a proof, or those in whose path a name stands."""
 
 import pathlib
 import re
@@ -9,6 +9,15 @@ import tempfile
 import common
 
 TEST = re.compile(r"(?ms)^(?:///[^\n]*\n)*#\[test\]\nfn (\w+)\(.*?^}\n")
+
+
+def place_of(crate):
+    """The crate that has the tests of a library, or of a crate of tests, and the module that they are in."""
+    found = sorted(common.ROOT.glob(f"crates/*_tests/src/tests/{crate.removeprefix('pg_')}"))
+    if found:
+        return found[0].parents[2].name, f"tests::{found[0].name}"
+    own = f"{crate}_tests"
+    return own if (common.ROOT / "crates" / own).is_dir() else crate, "tests"
 
 
 def leave_tests(sources, *names):
@@ -31,11 +40,13 @@ def try_tests(crate):
 
 if __name__ == "__main__":
     # (common.py takes the first word)
-    crate, _, name = common.NAMED.partition("::")
+    library, _, name = common.NAMED.partition("::")
+    crate, module = place_of(library)
     with tempfile.TemporaryDirectory(prefix="pgboard-test-") as folder:
         folder = pathlib.Path(folder)
         common.copy_crates(folder)
-        leave_tests(folder / "crates" / crate / "src", name)
+        for part in (module, name or module):
+            leave_tests(folder / "crates" / crate / "src", part)
         said, found = try_tests(folder / "crates" / crate)
     print(said)
     passed = [end for _, end in found].count("ok")

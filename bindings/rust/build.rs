@@ -10,6 +10,9 @@ const NOT_FOUND: &str = "pgboard: the C library was not found. Do one of these:
 - with a package of pgboard, set PKG_CONFIG_PATH to the folder that has pgboard.pc
 - set PGBOARD_LIB_DIR to the folder that has libpgboard.a";
 
+const UNPROVED: &str =
+    "unproved: no proof was made of the library that is linked; its run-time checks are on";
+
 fn main() {
     for name in ["PGBOARD_LIB_DIR", "PGBOARD_DYNAMIC", "PKG_CONFIG_PATH"] {
         println!("cargo:rerun-if-env-changed={name}");
@@ -47,6 +50,9 @@ fn link(folder: &Path, kind: &str, file: &str) -> Option<()> {
         println!("cargo:rerun-if-changed={}", path.display());
         println!("cargo:rustc-link-search=native={}", folder.display());
         println!("cargo:rustc-link-lib={kind}={name}");
+        if folder.ends_with("out/unproved") {
+            println!("cargo:warning={UNPROVED}");
+        }
     })
 }
 

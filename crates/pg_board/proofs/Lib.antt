@@ -12,4 +12,5 @@ pub mod OpeningState
 pub mod PushedEntry
 pub mod NoRowOfOpponent
 pub mod WholeAttractor
+pub mod RaisedAmount
 pub mod Refused

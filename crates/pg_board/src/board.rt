@@ -46,13 +46,12 @@ impl<'g> Board<'g> {
         ensures graph { IfOk result (λ b. b.graph ≡ game.now) }
         ensures journal { IfOk result (λ b. b.journal ≡ []) }
     {
-        // for the proof: the graph is a game
-        let _n = game.len();
+        let n = game.len();
         Ok(Board {
             game,
             contents: Contents {
                 entries: Vec::new(alloc),
-                regions: Regions::open(alloc, game)?,
+                regions: Regions::open(alloc, n)?,
                 number: 0,
             },
         })

@@ -43,17 +43,14 @@ impl<L: Ledger> Share<L> {
         self.amount
     }
 
-    /// Adds the vertices that a post through this share settled on the board, in the book too. Returns their number.
-    fn raise(&mut self, book: &mut Book<L>, board: &Board<'_>, posted: Posted) -> u32
-        requires book { book.old.total + posted.settled ≡ number_settled board.now.journal }
-        requires within { self.old + posted.settled ≤ number_settled board.now.journal }
+    /// Adds the vertices that a post through this share settled, in the book too. Returns their number.
+    fn raise(&mut self, book: &mut Book<L>, posted: Posted) -> u32
+        requires { self.old + posted.settled ≤ max_vertices }
         ensures settled { result ≡ posted.settled }
-        ensures book { book.new.total ≡ number_settled board.now.journal }
+        ensures book { book.new.total ≡ book.old.total + posted.settled }
         ensures added { self.new ≡ self.old + posted.settled }
         ensures within { self.new ≤ max_vertices }
     {
-        // for the proof: no more is settled than there are vertices, so the sum fits
-        let _game = board.game();
         let Share { token, amount } = self;
         let more = u64::from(posted.settled);
         book.add(token, more);
@@ -137,8 +134,6 @@ impl<'g, L: Ledger> Office<'g, L> {
             all.merge(token);
         }
         book.audit(&mut all);
-        // for the proof: the journal is lawful
-        let _game = board.game();
         board
     }
 
@@ -232,7 +227,7 @@ impl<'g, L: Ledger> LockedBoard<'g, L> {
     {
         let LockedBoard { board, book } = self;
         let posted = board.post(alloc, worker, claim)?;
-        Ok(share.raise(book, board, posted))
+        Ok(share.raise(book, posted))
     }
 
     /// The same as `post` for a checked claim.
@@ -250,6 +245,6 @@ impl<'g, L: Ledger> LockedBoard<'g, L> {
     {
         let LockedBoard { board, book } = self;
         let posted = board.settle(alloc, worker, checked)?;
-        Ok(share.raise(book, board, posted))
+        Ok(share.raise(book, posted))
     }
 }

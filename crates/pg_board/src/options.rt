@@ -19,6 +19,7 @@ pub struct Options {
     pub workers: u32,
     pub bound: u32,
     pub budget: u64,
+    ghost in_range: { (1 ≤ workers) × (workers ≤ 64) × (bound ≤ 8) },
 }
 
 impl Options {

@@ -9,7 +9,7 @@ ghost use Rattle.std.specs.List.Sorted.{IsStrictlyIncreasing};
 ghost use Rattle.pg_board.specs.State.{settled, is_unsettled, rest_of};
 ghost use Rattle.pg_board.specs.private.Regions.{table_state, AreRegions, state_with};
 ghost use Rattle.pg_board.specs.private.VertexState.{state_in};
-ghost use Rattle.pg_game.specs.Graph.{IsGame};
+ghost use Rattle.pg_game.specs.Graph.{Graph, IsGame};
 ghost use Rattle.pg_game.specs.Subgame.{IsSubgame};
 ghost use Rattle.pg_game.specs.VertexSet.{members, In, Within, union, without};
 ghost use Rattle.pg_dominion.specs.Claim.{vertices, named, IsRightRow, AreRight};
@@ -33,12 +33,11 @@ pub struct Regions {
 }
 
 impl Regions {
-    /// No vertex is settled.
-    pub fn open(alloc: Global, game: &Game) -> Result<Regions, Memory>
-        ensures regions { IfOk result (λ r. AreRegions game.now r) }
+    /// The tables of a game with `n` vertices, of which none is settled.
+    pub fn open(alloc: Global, n: u32) -> Result<Regions, Memory>
+        ensures regions { IfOk result (λ r. (g : Graph) → length g ≡ n → AreRegions g r) }
         ensures nothing { IfOk result (λ r. (v : ℕ) → table_state r.table.items v ≡ None) }
     {
-        let n = game.len();
         Ok(Regions {
             table: vec![in alloc; VertexState::Unsettled; n as usize]?,
             unsettled: Mask::full(alloc, n)?,

@@ -20,7 +20,11 @@ module _ (g : Graph) (p : Player) (U : VertexSet) where
   HasOpen-before S S' v w (x, e, u, f) = (x, e, u, false_from_ne_true (S x) (λ t. let h = w x t in cc (h, f)))
 
   pub IsSettled-before : (B S S' : VertexSet) (v : ℕ) → Within B S → IsTakenOrOpen g p U S S' v → IsTakenOrOpen g p U B S' v
-  IsSettled-before x0 x1 x2 v w x5 = search (rules, HasOpen-before)
+  IsSettled-before B S S' v w h = elim h [
+    | inl i ↦ inl i
+    | inr (inl (o, none)) ↦ inr (inl (o, λ x e. false_from_ne_true (B x) (λ t. (let a = w x t in let b = none x e in cc (a, b)))))
+    | inr (inr (o, way)) ↦ inr (inr (o, HasOpen-before B S v w way))
+  ]
 
   pub IsSettled-later : (B S S' : VertexSet) (v : ℕ) → Within S S' → IsTakenOrOpen g p U B S v → IsTakenOrOpen g p U B S' v
   IsSettled-later x0 x1 x2 v w x5 = search (rules)
@@ -47,7 +51,11 @@ module _ (g : Graph) (p : Player) (U : VertexSet) where
 
       own : (v w : ℕ) → In U v → S' v ≡ false → owner_of g v ≡ p → HasEdge g v w → D' w ≡ false
       own v w u f o e = elim (edge_or_not v) [
-        | inl m ↦ elim (settled v u m) [ inl i ↦ absurd (cc (i, f)) | inr h ↦ absurd (h.0 o) ]
+        | inl m ↦ elim (settled v u m) [
+          | inl i ↦ absurd (cc (i, f))
+          | inr (inl (o', none)) ↦ untaken w (none w e)
+          | inr (inr (n, way)) ↦ absurd (n o)
+        ]
         | inr none ↦ out w (d.own v w u (before v f) o e) (none w e)
       ]
 
@@ -55,7 +63,8 @@ module _ (g : Graph) (p : Player) (U : VertexSet) where
       other v u f o = elim (edge_or_not v) [
         | inl m ↦ elim (settled v u m) [
           | inl i ↦ absurd (cc (i, f))
-          | inr h ↦ (let q = h.1 in (q.0, q.1, q.2, untaken q.0 q.3))
+          | inr (inl (o', none)) ↦ absurd (o o')
+          | inr (inr (n, q)) ↦ (q.0, q.1, q.2, untaken q.0 q.3)
         ]
         | inr none ↦ (let q = d.other v u (before v f) o in (q.0, q.1, q.2, out q.0 q.3 (none q.0 q.1)))
       ]

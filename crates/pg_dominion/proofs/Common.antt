@@ -30,14 +30,13 @@ pub use Rattle.pg_game.specs.Walk.{ClosedWalk, Walk, greatest, greatest_priority
 pub use Rattle.pg_game.specs.declared.player.Player.{Player}
 pub use Rattle.pg_text.specs.Solution.{winner_of}
 pub use Rattle.pg_text.specs.Verdict.{HasBadChoice, LacksChoice, Leaves}
-pub use Rattle.pg_dominion.specs.AttractorState.{AttractsNoFurther, Takes, listed_by}
+pub use Rattle.pg_dominion.specs.AttractorState.{AttractsNoFurther, IsTakenOrOpen, Takes, listed_by}
 pub use Rattle.pg_dominion.specs.Attraction.{IsAttractedRow, IsAttraction}
 pub use Rattle.pg_dominion.specs.Checked.{AgreesAt, AgreesWithGame, AreChecked, RowEdge, claim_row, claim_rows, row_priority}
 pub use Rattle.pg_dominion.specs.Claim.{AreRight, ClaimRows, IsRightRow, IsSound, choice_in, named}
 pub use Rattle.pg_dominion.specs.KeptEdges.{Edge, IsOnBadCycle, IsStrategy, ends_at, is_bad, kept_row}
 pub use Rattle.pg_dominion.specs.declared.checked.CheckedRow.{CheckedRow}
 pub use Rattle.pg_dominion.specs.declared.strategy_graph.StrategyGraph.{StrategyGraph}
-pub use Rattle.pg_dominion.specs.private.FreeVertices.{IsTakenOrOpen}
 pub use Rattle.pg_dominion.specs.ExtendedRows.{LeadFrom}
 pub use Rattle.pg_dominion.specs.private.KeptEdges.{AreLabelled, AreNoted, AreReached, EdgeUnder, GoesOn, IsFollowed, IsQueued, IsSpread, Leads, Reaches}
 pub use Rattle.pg_dominion.specs.private.KeptEdges.{label_lists, reached_lists}

@@ -1,5 +1,5 @@
 -- What a player attracts in place: a list of items, each for a vertex that is no longer free.
-use Rattle.std.specs.Prelude.{ℕ, ◌≡◌, ◌≢◌, ◌==◌, ◌++◌, false, List}
+use Rattle.std.specs.Prelude.{ℕ, ◌≡◌, ◌≢◌, ◌==◌, ◌++◌, ◌⊎◌, false, List}
 use Rattle.std.specs.List.{list_any}
 use Rattle.pg_game.specs.declared.player.Player.{Player}
 use Rattle.pg_game.specs.Graph.{Graph, HasEdge, owner_of}
@@ -23,3 +23,8 @@ HasOpen g U S v = (w : ℕ) × HasEdge g v w × In U w × (S w ≡ false)
 pub record AttractsNoFurther (g : Graph) (p : Player) (U D S : VertexSet) : Type 0 where
   pub own : (v w : ℕ) → In U v → S v ≡ false → owner_of g v ≡ p → HasEdge g v w → D w ≡ false
   pub other : (v : ℕ) → In U v → S v ≡ false → owner_of g v ≢ p → HasOpen g U D v
+
+-- the vertex is in `now`, or those of D do not attract it: it is the player's without an edge there, or the opponent's with a way out
+abbrev pub IsTakenOrOpen : Graph → Player → VertexSet → VertexSet → VertexSet → ℕ → Type 0
+IsTakenOrOpen g p U D now v =
+    In now v ⊎ (((owner_of g v ≡ p) × ((w : ℕ) → HasEdge g v w → D w ≡ false)) ⊎ ((owner_of g v ≢ p) × HasOpen g U D v))

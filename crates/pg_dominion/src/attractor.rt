@@ -8,8 +8,7 @@ ghost use Rattle.std.specs.Prelude.{◌<◌, ◌≤◌, ℕ, length, take, OnOk,
 ghost use Rattle.pg_game.specs.Graph.{HasEdge};
 ghost use Rattle.pg_game.specs.Predecessors.{ArePredecessors};
 ghost use Rattle.pg_game.specs.VertexSet.{In, Within, all_vertices, union, members};
-ghost use Rattle.pg_dominion.specs.AttractorState.{listed_by, Takes, AttractsNoFurther};
-ghost use Rattle.pg_dominion.specs.private.FreeVertices.{IsTakenOrOpen};
+ghost use Rattle.pg_dominion.specs.AttractorState.{listed_by, Takes, AttractsNoFurther, IsTakenOrOpen};
 ghost use Rattle.pg_game.specs.Subgame.{IsSubgame};
 ghost use Rattle.pg_dominion.specs.Claim.{named};
 ghost use Rattle.pg_dominion.specs.Attraction.{IsAttraction};

@@ -14,7 +14,7 @@ ghost use Rattle.pg_game.specs.Least.{NoneHas};
 ghost use Rattle.pg_game.specs.VertexSet.{In};
 ghost use Rattle.pg_dominion.specs.private.ListedEnds.{LeadsToListed, AreNamed};
 
-use crate::cycles::least_bad_vertex;
+use crate::cycles::least_on_bad_cycle;
 use crate::notes::is_bad;
 use crate::strategy_graph::StrategyGraph;
 use pg_game::{ForwardGame, Game, Memory, Player, Sequence};
@@ -77,7 +77,7 @@ pub fn judge_claim(alloc: Global, game: &Game, claim: &Claim) -> Result<(), Clai
         return Ok(());
     }
     let kept = kept_of(alloc, game, claim)?;
-    match least_bad_vertex(alloc, &kept)? {
+    match least_on_bad_cycle(alloc, &kept)? {
         Some(v) => Err(ClaimFault::Cycle(v)),
         None => Ok(()),
     }

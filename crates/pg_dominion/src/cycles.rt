@@ -1,4 +1,4 @@
-//! The least bad vertex that is the greatest on a closed walk of kept edges.
+//! The least vertex on a bad cycle: a bad vertex that is the greatest on a closed walk of kept edges.
 //!
 //! The plain body searches from each bad vertex for a way back below its priority. In most games the searches end soon. If they take
 //! long, a ranking of the vertices (`peeling`) gives the answer in near-linear time: a pass over the edges checks every ranking
@@ -21,11 +21,12 @@ use crate::strategy_graph::StrategyGraph;
 use pg_game::Memory;
 use std::alloc::Global;
 
-/// The least bad vertex that is the greatest on a closed walk through it.
+/// The least vertex on a bad cycle: one with the opponent's parity that is the greatest on a closed walk of kept edges. The
+/// graph's `bad` says which have that parity.
 ///
 /// In most games a search from each bad vertex ends soon. If searches look again and again at reached vertices, a ranking
 /// gives the result in near-linear time, with the memory of their tables. The only error is refused memory.
-pub fn least_bad_vertex(alloc: Global, kept: &StrategyGraph) -> Result<Option<u32>, Memory>
+pub fn least_on_bad_cycle(alloc: Global, kept: &StrategyGraph) -> Result<Option<u32>, Memory>
     ensures { IfOk result (λ least. MatchOption least (NoneHas (IsOnBadCycle kept.now)) (IsLeast (IsOnBadCycle kept.now))) }
 {
     let patience = u64::from(kept.game.len()) / 4;
@@ -71,7 +72,7 @@ fn search_from(
 /// The result of searches from one bad vertex after another.
 #[derive(Clone, Copy)]
 enum SearchProgress {
-    /// The least bad vertex that is the greatest on a closed walk, or that there is none.
+    /// The least vertex on a bad cycle, or that there is none.
     All(Option<u32>),
     /// There is none before this vertex, and the searches ended there.
     Before(u32),
@@ -370,8 +371,7 @@ fn leads_back(alloc: Global, kept: &StrategyGraph, v: u32) -> Result<bool, Memor
     searches.walks_back(v)
 }
 
-/// The least bad vertex that is the greatest on a closed walk through it, if a ranking shows it. Searches have shown that there
-/// is none before `from`.
+/// The least vertex on a bad cycle, if a ranking shows it. Searches have shown that there is none before `from`.
 fn first_by_ranking(
     alloc: Global,
     kept: &StrategyGraph,

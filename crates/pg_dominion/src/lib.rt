@@ -20,7 +20,7 @@ pub use attractor::{AttractorState, attract, attract_from};
 pub use checked::{Checked, CheckedRow, check_claim};
 pub use claim::{Claim, ClaimFault, judge_claim};
 pub use cursors::Cursors;
-pub use cycles::least_bad_vertex;
+pub use cycles::least_on_bad_cycle;
 pub use notes::{is_bad, own_choice};
 pub use solution::{SolutionFault, check_forward_solution, check_solution};
 pub use strategy_graph::StrategyGraph;

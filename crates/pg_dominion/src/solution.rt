@@ -10,7 +10,7 @@ ghost use Rattle.pg_text.specs.Verdict.{LacksChoice, HasBadChoice, Leaves};
 ghost use Rattle.pg_dominion.specs.Verdict.{FailsBy};
 ghost use Rattle.pg_dominion.specs.private.JointStrategy.{IsJointStrategy, LeavesTo};
 
-use crate::cycles::least_bad_vertex;
+use crate::cycles::least_on_bad_cycle;
 use crate::notes::{is_bad, own_choice};
 use crate::strategy_graph::StrategyGraph;
 use pg_game::{ForwardGame, Game, Memory, Player};
@@ -100,7 +100,7 @@ pub fn check_forward_solution(
         let to = game.id(w);
         return Err(SolutionFault::Leaves(from, to));
     }
-    if let Some(v) = least_bad_vertex(alloc, &kept)? {
+    if let Some(v) = least_on_bad_cycle(alloc, &kept)? {
         return Err(SolutionFault::Cycle(game.id(v)));
     }
     Ok(())

@@ -35,6 +35,7 @@ pub use Rattle.pg_game.specs.declared.player.Player.{Player}
 pub use Rattle.pg_game.specs.declared.player.Player.TheVariants.{Even, Odd}
 pub use Rattle.pg_dominion.proofs.Named.{choice-back, choice-front, named-append}
 pub use Rattle.pg_dominion.specs.Attraction.{IsAttractedRow}
+pub use Rattle.pg_dominion.specs.AttractorState.{AttractsNoFurther, IsTakenOrOpen}
 pub use Rattle.pg_dominion.specs.Claim.{ClaimRows, IsGoodIn, choice_in, named, row_at, vertices}
 pub use Rattle.pg_dominion.specs.declared.claim.Claim.{Claim}
 pub use Rattle.pg_dominion.specs.declared.strategy_graph.StrategyGraph.{StrategyGraph}
@@ -45,14 +46,11 @@ pub use Rattle.pg_finders.specs.declared.recursion.subgame.Plan.{Plan}
 pub use Rattle.pg_finders.specs.declared.recursion.Frame.{Frame}
 pub use Rattle.pg_finders.specs.private.Solved.{IsAttracted, IsBegun, IsSolvedInside, IsSolvedTo, Winners, WinsOn, won_inside}
 pub use Rattle.pg_finders.specs.private.Singles.{itself, loops}
-pub use Rattle.pg_finders.specs.private.recursion.TakenVertices.{AttractsNoActive, Before, HasTaken, IsReady, IsTested, active_of, place}
-pub use Rattle.pg_finders.specs.private.recursion.Listed.{Apart, Once, listed}
+pub use Rattle.pg_finders.specs.private.recursion.Partition.{Before, HasTaken, place}
+pub use Rattle.pg_finders.specs.private.recursion.Subgame.{active_of, Apart, Once, listed, IsGiven, SameAt, SameOutside, choices_of, winners_of}
 pub use Rattle.pg_finders.specs.private.recursion.Order.{AllStand, AreDistinct, AreGreatest, AreVertices, IsLast, IsOrder, priority_at}
-pub use Rattle.pg_finders.specs.private.recursion.Plans.{IsGiven, SameAt, SameOutside, choices_of, winners_of}
-pub use Rattle.pg_finders.specs.private.recursion.SolverState.{IsAtEnd, IsSolverState, how_many_gone, AreFewer, HasStepped, number_left}
+pub use Rattle.pg_finders.specs.private.recursion.Solver.{IsAtEnd, IsSolverState, how_many_gone, AreFewer, HasStepped, number_left, AreApart, AreOpenLevels, Linked, count_at, gone, level_at, part, prefix, Level, AreLevels}
 pub use Rattle.pg_finders.specs.private.recursion.Settled.{SettledLists, settled_of}
-pub use Rattle.pg_finders.specs.private.recursion.OpenLevels.{AreApart, AreOpenLevels, Linked, count_at, gone, level_at, part, prefix}
-pub use Rattle.pg_finders.specs.private.recursion.Levels.{Level, AreLevels}
 pub use Rattle.pg_finders.specs.Steps.{priority_count, steps, steps_after, steps_left, work}
 pub use Rattle.pg_finders.specs.private.small.Partial.{AreDifferentRows, AddsRows, ExtendsChoices, IsPartial}
 pub use Rattle.pg_finders.specs.private.small.SearchSteps.{HasNoCapacity, NoneAgreesAt, StillAgreesAt}

@@ -72,7 +72,7 @@ module _ {g : Graph} {I T L : VertexSet} {p : Player} {won : Winners} {s : Choic
     subgame = subgame_again;
     within = λ v i. (only (U v) (C v) i).0;
     rank = rank';
-    above = λ x v i u. begun.above x v (only (T x) (B x) i).0 (only (I v) (B v) u).0;
+    parity = λ x i. begun.parity x (only (T x) (B x) i).0;
     below = λ x v i u n. (let j = only (I v) (B v) u in begun.below x v (only (T x) (B x) i).0 j.0 (false_from_ne_true (T v) (λ y. no_both (minus y j.1) n)));
     attracted = IsAttracted-subst (λ v. sym (back_equal (U v) (C v) (attracted_again.inside v))) attracted_again;
     chosen = chosen;

@@ -1,5 +1,5 @@
 -- The steps by which a subgame is solved: what an attractor leaves, what the player of the greatest priority gets, what the opponent takes.
-use Rattle.pg_finders.proofs.Common.{◌≡◌, ℕ, ◌<◌, ◌≤◌, Bool, true, false, ◌&&◌, not, ◌⊎◌, inl, inr, refl, sym, ◌∙◌, ap, subst, rules, fun_ext, Option, Some}
+use Rattle.pg_finders.proofs.Common.{◌≡◌, ℕ, ◌<◌, ◌≤◌, arith, Bool, true, false, ◌&&◌, not, ◌⊎◌, inl, inr, refl, sym, ◌∙◌, ap, subst, rules, fun_ext, Option, Some}
 use Rattle.pg_finders.proofs.Common.{if◌then◌else◌, Contains, and-true, and_parts, and_from, cases_Bool, Player, opponent, same_player, of_parity, Graph}
 use Rattle.pg_finders.proofs.Common.{HasEdge, owner_of, priority_of, successors_of, VertexSet, In, no_vertices, without, IsSubgame, Choices, kept, option_list}
 use Rattle.pg_finders.proofs.Common.{KeptEdge, OnlyGoodWalks, some_or_none, ClosedWalk-weaker, own_or_other, same_is, is_same, Winners, won_inside, WinsOn}
@@ -309,7 +309,7 @@ module _ {g : Graph} {U T L : VertexSet} {p : Player} {won : Winners} {s : Choic
     subgame = begun.subgame;
     within = begun.within;
     rank = begun.rank;
-    above = begun.above;
+    parity = begun.parity;
     below = begun.below;
     some = begun.some;
     attracted = IsAttracted-same (λ v i. (same v (only (U v) (L v) i).1).1) begun.attracted;
@@ -324,9 +324,15 @@ module _ {g : Graph} {U T L : VertexSet} {p : Player} {won : Winners} {s : Choic
 
   -- the player won all that was left, so he wins all
   pub all_won : IsSolvedInside g L won s → ((v : ℕ) → In L v → won v ≡ p) → IsSolvedTo g U no_vertices won s
-  all_won solved his = solved_all g p U T A won s begun.rank begun.above begun.attracted begun.chosen rest
+  all_won solved his = solved_all g p U T A won s begun.rank above begun.attracted begun.chosen rest
       (λ v u. elim (cases_Bool (L v)) [ inl l ↦ his v l | inr n ↦ begun.his v (minus u n) ])
     where
+      above : (t v : ℕ) → In T t → In U v → priority_of g t ≤ priority_of g v → of_parity (priority_of g v) ≡ p
+      above t v i u l = elim (cases_Bool (T v)) [
+        | inl j ↦ begun.parity v j
+        | inr n ↦ absurd (let b = begun.below t v i u n in omega (arith, b, l))
+      ]
+
       mine : (v : ℕ) → won_inside L won p v ≡ without U A v
       mine v = both_ways (won_inside L won p v) (without U A v) (λ i. left_is v ∙ (and_parts (L v) (same_player (won v) p) i).0)
           (λ i. (let l : L v ≡ true = sym (left_is v) ∙ i in and_from (L v) (same_player (won v) p) l (is_same (won v) p (his v l))))

@@ -2,6 +2,7 @@
 pub mod Solved
 pub mod DeadEnds
 pub mod recursion
+pub mod AttractorLaws
 pub mod small
 pub mod solitaire
 pub mod Singles

@@ -4,35 +4,32 @@
 //! something has changed on which it rests (Lapauw, Bruynooghe and Denecker 2020). The crate's page has the notions, the five parts of
 //! going back with a picture, and why they are right. A caller may bound the number of subgames that are begun.
 
-ghost use Rattle.std.specs.Prelude.{◌≡◌, length, IfOk, ◌≢◌, ◌≤◌, ◌+◌, ◌<◌, ◌^◌, take, ℕ, All, OnOk, true, false};
+ghost use Rattle.std.specs.Prelude.{◌≡◌, length, IfOk, ◌≢◌, ◌≤◌, ◌+◌, ◌<◌, ◌^◌, ℕ, All, OnOk, true, false};
 ghost use Rattle.std.specs.Prelude.{None, Some, IsNone, IsSome, IfSome};
 ghost use Rattle.pg_game.specs.declared.player.Player.TheVariants.{Even, Odd};
 ghost use Rattle.pg_game.specs.VertexSet.{In, Within, members, how_many, union};
 ghost use Rattle.pg_finders.specs.private.Solved.{won_inside, IsSolvedInside};
-ghost use Rattle.pg_finders.specs.private.recursion.Plans.{winners_of, choices_of, HasSize};
+ghost use Rattle.pg_finders.specs.private.recursion.Subgame.{winners_of, choices_of, listed, active_of};
 ghost use Rattle.pg_finders.specs.Claims.{AreClaims, rows_below};
 ghost use Rattle.pg_dominion.specs.KeptEdges.{own_choices};
 ghost use Rattle.pg_game.specs.Subgame.{IsSubgame};
-ghost use Rattle.pg_finders.specs.private.recursion.Listed.{listed};
-ghost use Rattle.pg_finders.specs.private.recursion.TakenVertices.{active_of};
 ghost use Rattle.pg_game.specs.Player.{opponent};
 ghost use Rattle.pg_finders.specs.private.recursion.Settled.{settled_of};
-ghost use Rattle.pg_finders.specs.private.recursion.OpenLevels.{count_at, tail_at};
-ghost use Rattle.pg_finders.specs.private.recursion.SolverState.{IsSolverState, IsAtEnd, how_many_gone, AreFewer, HasStepped, HasStopped, after_step};
-ghost use Rattle.pg_finders.specs.private.recursion.Parts.{AreParts};
-ghost use Rattle.pg_finders.specs.private.recursion.Shrunk.{aside_of, greatest_of, Loses, Shrinks, WaitsAgain, Waits, WinsBack, KeepsLists};
+ghost use Rattle.pg_finders.specs.private.recursion.Solver.{count_at, tail_at, IsSolverState, IsAtEnd, how_many_gone, AreFewer, HasStepped, HasStopped, after_step};
+ghost use Rattle.pg_finders.specs.private.recursion.Partition.{IsPartition};
+ghost use Rattle.pg_finders.specs.private.recursion.GoingBack.{aside_of, greatest_of, Loses, Shrinks, PushesFrameAgain, PushesFrame, WinsBack, KeepsLists};
 ghost use Rattle.pg_finders.specs.Recursion.{IfSolved, IfRunning};
 ghost use Rattle.pg_finders.specs.Steps.{priority_count, steps as most_steps, work};
 ghost use Rattle.std.specs.Arc.{arc_value};
 
 mod order;
-mod parts;
+mod partition;
 mod settled;
 mod subgame;
 
 use crate::inside::{Inside, View};
 use crate::recursion::order::Order;
-use crate::recursion::parts::{Parts, list_active};
+use crate::recursion::partition::{Partition, list_active};
 use crate::recursion::settled::{Settled, Tail};
 use crate::recursion::subgame::{Plan, Subgame};
 use pg_dominion::{Claim, own_choice};
@@ -97,7 +94,7 @@ impl Model for Recursion {
     ghost use Rattle.pg_game.specs.Subgame.{IsSubgame};
     ghost use Rattle.pg_finders.specs.Run.{Run};
     ghost use Rattle.pg_finders.specs.Steps.{work};
-    ghost use Rattle.pg_finders.specs.private.recursion.SolverState.{IsSolverState, HasMore};
+    ghost use Rattle.pg_finders.specs.private.recursion.Solver.{IsSolverState, HasMore};
 
     ghost Value = { Run };
 
@@ -163,14 +160,15 @@ impl Recursion {
 /// A run of the loop.
 #[derive(Drop)]
 struct Solver {
-    parts: Parts,
+    partition: Partition,
     order: Order,
     set_aside: Vec<u32>,
     frames: Vec<Frame>,
+    /// What the last attraction took; at a beginning, after the greatest vertices.
     list: Vec<u32>,
-    /// The vertices that are made active again.
+    /// The greatest vertices of a subgame that is begun; in going back D and what is opened, so all active vertices.
     opened: Vec<u32>,
-    /// The number of planned vertices.
+    /// The number of vertices of the mask.
     size: usize,
 }
 
@@ -178,7 +176,7 @@ impl Solver {
     /// No vertex is settled yet.
     fn new(alloc: Global, view: &View) -> Result<Solver, Memory>
         ensures running { IfOk result (λ solver. IsSolverState view.now.game.now view.now.mask.now solver) }
-        ensures active { IfOk result (λ solver. solver.parts.subgame.active ≡ view.now.mask.now) }
+        ensures active { IfOk result (λ solver. solver.partition.subgame.active ≡ view.now.mask.now) }
         ensures work { IfOk result (λ solver. work view.now.game.now view.now.mask.now solver
             ≤ most_steps (priority_count view.now.game.now (members view.now.mask.now)) (how_many view.now.mask.now)) }
     {
@@ -193,7 +191,7 @@ impl Solver {
         let set_aside = Vec::with_capacity(alloc, n as usize)?;
         let list = Vec::with_capacity(alloc, n as usize)?;
         let solver = Solver {
-            parts: Parts::new(subgame, settled),
+            partition: Partition::new(subgame, settled),
             order,
             set_aside,
             frames,
@@ -206,9 +204,9 @@ impl Solver {
 
     /// The number of vertices that are settled for the player.
     fn count(&self, player: Player) -> usize
-        ensures { result ≡ length (settled_of self.now.parts.settled player) }
+        ensures { result ≡ length (settled_of self.now.partition.settled player) }
     {
-        self.parts.settled.count(player)
+        self.partition.settled.count(player)
     }
 
     /// Takes the steps that are left, or all where there is no limit. Returns the claims once no step remains to be taken.
@@ -222,14 +220,14 @@ impl Solver {
         ensures claims { IfOk result (λ found. IfSome found (λ solved. AreClaims view.now.game.now (members view.now.mask.now) solved.even solved.odd)) }
         ensures stopped { IfOk result (λ found. IsNone found → HasStopped view.now.game.now view.now.mask.now left.old left.new self.old self.new) }
         ensures fewer { AreFewer left.old left.new }
-        ensures charged { IfOk result (λ found. IsSome found → (v : ℕ) → In (active_of self.old.parts.subgame) v → HasStepped left.old left.new) }
+        ensures charged { IfOk result (λ found. IsSome found → (v : ℕ) → In (active_of self.old.partition.subgame) v → HasStepped left.old left.new) }
     {
         if !self.run(view, left)? {
             return Ok(None);
         }
         let for_even = self.count(Player::Even);
         let for_odd = self.count(Player::Odd);
-        let plan = &self.parts.subgame.plan;
+        let plan = &self.partition.subgame.plan;
         let (even, odd) = rows_of(alloc, view, plan, for_even, for_odd)?;
         Ok(Some(Solved {
             even: Claim::new(Player::Even, even),
@@ -237,15 +235,15 @@ impl Solver {
         }))
     }
 
-    /// Takes the steps that are left, or all where there is no limit. False if one more was needed; if true, the whole mask is planned.
+    /// Takes the steps that are left, or all where there is no limit. False if one more was needed; if true, the whole mask is settled.
     fn run(&mut self, view: &View, left: &mut Option<u64>) -> Result<bool, Memory>
         requires { IsSolverState view.now.game.now view.now.mask.now self.old }
         ensures solved { IfOk result (λ done. done ≡ true
-            → IsSolvedInside view.now.game.now (members view.now.mask.now) (winners_of self.new.parts.subgame.plan) (choices_of self.new.parts.subgame.plan)) }
-        ensures size { IfOk result (λ done. done ≡ true → HasSize (length view.now.game.now) self.new.parts.subgame.plan) }
+            → IsSolvedInside view.now.game.now (members view.now.mask.now) (winners_of self.new.partition.subgame.plan) (choices_of self.new.partition.subgame.plan)) }
+        ensures size { IfOk result (λ done. done ≡ true → length self.new.partition.subgame.plan.rows.items ≡ length view.now.game.now) }
         ensures stopped { IfOk result (λ done. done ≡ false → HasStopped view.now.game.now view.now.mask.now left.old left.new self.old self.new) }
         ensures fewer { AreFewer left.old left.new }
-        ensures charged { IfOk result (λ done. done ≡ true → (v : ℕ) → In (active_of self.old.parts.subgame) v → HasStepped left.old left.new) }
+        ensures charged { IfOk result (λ done. done ≡ true → (v : ℕ) → In (active_of self.old.partition.subgame) v → HasStepped left.old left.new) }
     {
         'steps: loop {
             if self.has_more(view) {
@@ -266,38 +264,44 @@ impl Solver {
     /// Begins the active part: sets aside its vertices of the greatest priority and what they attract.
     fn enter(&mut self, view: &View) -> Result<(), Memory>
         requires running { IsSolverState view.now.game.now view.now.mask.now self.old }
-        requires some { (v : ℕ) × In (active_of self.old.parts.subgame) v }
+        requires some { (v : ℕ) × In (active_of self.old.partition.subgame) v }
         ensures running { OnOk result (IsSolverState view.now.game.now view.now.mask.now self.new) }
         ensures fewer { OnOk result (work view.now.game.now view.now.mask.now self.new < work view.now.game.now view.now.mask.now self.old) }
     {
-        let active = &self.parts.subgame.active;
+        let active = &self.partition.subgame.active;
         let top = self.order.top(view.game, active).unwrap();
         self.order
             .list_greatest(view.game, active, top, &mut self.opened)?;
         let player = Player::of_parity(top);
-        let none = self.parts.settled.end(player);
+        let none = self.partition.settled.end(player);
         let tops = self
-            .parts
+            .partition
             .begin(view.game, none, &self.opened, &mut self.list)?;
         let even = self.count(Player::Even);
         let odd = self.count(Player::Odd);
-        self.wait(player, tops, even, odd)
+        self.push_frame(player, tops, even, odd)
     }
 
-    /// Sets aside the listed vertices, the first of them the greatest. Their subgame waits, with so many settled vertices of each player.
-    fn wait(&mut self, player: Player, tops: usize, even: usize, odd: usize) -> Result<(), Memory>
+    /// Sets aside the listed vertices, the first `tops` of them the greatest. Their subgame waits, with so many settled vertices of each player.
+    fn push_frame(
+        &mut self,
+        player: Player,
+        tops: usize,
+        even: usize,
+        odd: usize,
+    ) -> Result<(), Memory>
         requires { tops ≤ length self.old.list.items }
-        ensures waits { OnOk result (Waits player tops even odd self.old self.new) }
+        ensures pushes { OnOk result (PushesFrame player tops even odd self.old self.new) }
     {
-        let set_aside = self.set_aside.len();
+        let set_aside_from = self.set_aside.len();
         self.set_aside.extend_from_slice(&self.list)?;
         self.frames.push(Frame {
             player,
             even,
             odd,
-            set_aside,
-            tops: set_aside + tops,
-            upto: self.set_aside.len(),
+            set_aside_from,
+            tops_upto: set_aside_from + tops,
+            set_aside_upto: self.set_aside.len(),
         })?;
         Ok(())
     }
@@ -305,16 +309,16 @@ impl Solver {
     /// Whether a vertex is active: neither settled nor set aside.
     fn has_more(&self, view: &View) -> bool
         requires { IsSolverState view.now.game.now view.now.mask.now self.now }
-        ensures some { result ≡ true → (v : ℕ) × In (active_of self.now.parts.subgame) v }
-        ensures none { result ≡ false → (v : ℕ) → active_of self.now.parts.subgame v ≡ false }
+        ensures some { result ≡ true → (v : ℕ) × In (active_of self.now.partition.subgame) v }
+        ensures none { result ≡ false → (v : ℕ) → active_of self.now.partition.subgame v ≡ false }
     {
         self.gone() != self.size
     }
 
     /// The number of vertices that are settled or set aside. The others are active.
     fn gone(&self) -> usize
-        requires { how_many_gone (settled_of self.now.parts.settled) self.now.set_aside.items < 2 ^ 32 }
-        ensures { result ≡ how_many_gone (settled_of self.now.parts.settled) self.now.set_aside.items }
+        requires { how_many_gone (settled_of self.now.partition.settled) self.now.set_aside.items < 2 ^ 32 }
+        ensures { result ≡ how_many_gone (settled_of self.now.partition.settled) self.now.set_aside.items }
     {
         self.count(Player::Even) + self.count(Player::Odd) + self.set_aside.len()
     }
@@ -329,20 +333,20 @@ impl Solver {
         if self.count(other) == frame.count(other) {
             self.settle_aside(view, frame)
         } else {
-            self.resume(view, frame)
+            self.go_back(view, frame)
         }
     }
 
     /// Settles for its player what is set aside for the subgame that waits last. He won its whole rest.
     fn settle_aside(&mut self, view: &View, frame: Frame) -> Result<(), Memory>
         requires end { IsAtEnd view.now.game.now view.now.mask.now self.old frame }
-        requires all { length (settled_of self.old.parts.settled (opponent frame.player)) ≡ count_at frame (opponent frame.player) }
+        requires all { length (settled_of self.old.partition.settled (opponent frame.player)) ≡ count_at frame (opponent frame.player) }
         ensures running { OnOk result (IsSolverState view.now.game.now view.now.mask.now self.new) }
         ensures fewer { OnOk result (work view.now.game.now view.now.mask.now self.new < work view.now.game.now view.now.mask.now self.old) }
     {
         let aside = frame.aside(&self.set_aside);
-        self.parts.settled.add_all(frame.player, aside)?;
-        self.set_aside.truncate(frame.set_aside);
+        self.partition.settled.add_all(frame.player, aside)?;
+        self.set_aside.truncate(frame.set_aside_from);
         self.frames.pop();
         Ok(())
     }
@@ -350,17 +354,18 @@ impl Solver {
     /// Goes back, in five parts: removes from the subgame that waits last what the opponent won and attracts. It waits again, unless its
     /// greatest vertices are all among them. What its player has won stays won if nothing on which it rests has changed; the others are
     /// active.
-    fn resume(&mut self, view: &View, frame: Frame) -> Result<(), Memory>
+    fn go_back(&mut self, view: &View, frame: Frame) -> Result<(), Memory>
         requires end { IsAtEnd view.now.game.now view.now.mask.now self.old frame }
-        requires some { length (settled_of self.old.parts.settled (opponent frame.player)) ≢ count_at frame (opponent frame.player) }
+        requires some { length (settled_of self.old.partition.settled (opponent frame.player)) ≢ count_at frame (opponent frame.player) }
         ensures running { OnOk result (IsSolverState view.now.game.now view.now.mask.now self.new) }
         ensures fewer { OnOk result (work view.now.game.now view.now.mask.now self.new < work view.now.game.now view.now.mask.now self.old) }
     {
         let tops = self.shrink(view, frame)?;
-        self.wait_again(frame, tops)?;
+        // part 5 begins before part 4, which uses the list anew
+        self.push_frame_again(frame, tops)?;
         self.win_back(view, frame)?;
         self.order
-            .refill(view.game, &self.parts.subgame.active, &self.opened)
+            .refill(view.game, &self.partition.subgame.active, &self.opened)
     }
 
     /// Parts 1 to 3 of going back: settles for the opponent what he attracts, lists what the greatest vertices that are left attract, and
@@ -369,16 +374,21 @@ impl Solver {
         requires { IsAtEnd view.now.game.now view.now.mask.now self.old frame }
         ensures shrinks { IfOk result (λ k. Shrinks view.now.game.now (members view.now.mask.now) frame self.old self.new k) }
     {
+        // what the player has won since a place: W_p, without B after part 1, and X after part 3
         let won = frame.tail(frame.player);
-        let lost = self.parts.settled.end(frame.player.other());
+        // what is settled for the opponent from here on is what he newly takes
+        let taken = self.partition.settled.end(frame.player.other());
         self.lose(view, frame)?;
         let greatest = frame.greatest(&self.set_aside);
-        let tops = self.parts.begin(view.game, won, greatest, &mut self.list)?;
+        let tops = self
+            .partition
+            .begin(view.game, won, greatest, &mut self.list)?;
         self.opened.clear();
         let aside = frame.aside(&self.set_aside);
-        list_active(&self.parts.subgame.active, aside, &mut self.opened)?;
-        self.parts.open(view.game, won, lost, &mut self.opened)?;
-        self.set_aside.truncate(frame.set_aside);
+        list_active(&self.partition.subgame.active, aside, &mut self.opened)?;
+        self.partition
+            .open(view.game, won, taken, &mut self.opened)?;
+        self.set_aside.truncate(frame.set_aside_from);
         self.frames.pop();
         Ok(tops)
     }
@@ -390,19 +400,19 @@ impl Solver {
         ensures loses { OnOk result (Loses view.now.game.now (members view.now.mask.now) frame self.old self.new) }
     {
         let aside = frame.aside(&self.set_aside);
-        insert_all(&mut self.parts.subgame.active, aside);
+        insert_all(&mut self.partition.subgame.active, aside);
         let won = frame.tail(frame.player);
         let lost = frame.tail(frame.player.other());
-        self.parts
+        self.partition
             .attract(view.game, won, lost, aside, &mut self.list)?;
         Ok(())
     }
 
-    /// Part 5 of going back: sets aside the listed vertices, the first of them the greatest, and their subgame waits; if there is none,
-    /// nothing waits.
-    fn wait_again(&mut self, frame: Frame, tops: usize) -> Result<(), Memory>
+    /// Part 5 of going back: sets aside the listed vertices, the first `tops` of them the greatest, and their subgame waits; if there is
+    /// none, nothing waits. What the player has kept (X) stays in his tail, and what the opponent has (B) is outside from now on.
+    fn push_frame_again(&mut self, frame: Frame, tops: usize) -> Result<(), Memory>
         requires { tops ≤ length self.old.list.items }
-        ensures waits { OnOk result (WaitsAgain frame tops self.old self.new) }
+        ensures pushes { OnOk result (PushesFrameAgain frame tops self.old self.new) }
     {
         if tops == 0 {
             return Ok(());
@@ -411,23 +421,23 @@ impl Solver {
             Player::Even => (frame.even, self.count(Player::Odd)),
             Player::Odd => (self.count(Player::Even), frame.odd),
         };
-        self.wait(frame.player, tops, even, odd)
+        self.push_frame(frame.player, tops, even, odd)
     }
 
     /// Part 4 of going back: settles for the player what he attracts to what he has still won since the subgame was begun (X).
     fn win_back(&mut self, view: &View, frame: Frame) -> Result<(), Memory>
-        requires parts { AreParts (length view.now.game.now) self.old.parts }
+        requires partition { IsPartition (length view.now.game.now) self.old.partition }
         requires below { All (λ v. v < length view.now.game.now) self.old.opened.items }
-        requires listed { Within (active_of self.old.parts.subgame) (listed self.old.opened.items) }
-        requires counts { count_at frame frame.player ≤ length (settled_of self.old.parts.settled frame.player) }
-        ensures wins { OnOk result (WinsBack view.now.game.now (tail_at frame frame.player) self.old.parts self.new.parts) }
-        ensures parts { OnOk result (AreParts (length view.now.game.now) self.new.parts) }
+        requires listed { Within (active_of self.old.partition.subgame) (listed self.old.opened.items) }
+        requires counts { count_at frame frame.player ≤ length (settled_of self.old.partition.settled frame.player) }
+        ensures wins { OnOk result (WinsBack view.now.game.now (tail_at frame frame.player) self.old.partition self.new.partition) }
+        ensures partition { OnOk result (IsPartition (length view.now.game.now) self.new.partition) }
         ensures same { OnOk result (KeepsLists self.old self.new) }
     {
         let won = frame.tail(frame.player);
-        let none = self.parts.settled.end(frame.player);
+        let none = self.partition.settled.end(frame.player);
         if none.from > won.from {
-            self.parts
+            self.partition
                 .attract(view.game, none, won, &self.opened, &mut self.list)?;
         }
         Ok(())
@@ -439,13 +449,13 @@ impl Solver {
 struct Frame {
     /// The player of its attractor.
     player: Player,
-    /// The number of vertices that were settled for each player when the subgame was begun.
+    /// From these places on, the players' lists have what is settled of its rest.
     even: usize,
     odd: usize,
     /// The places between which its attractor is set aside, first its greatest vertices.
-    set_aside: usize,
-    tops: usize,
-    upto: usize,
+    set_aside_from: usize,
+    tops_upto: usize,
+    set_aside_upto: usize,
 }
 
 impl Frame {
@@ -471,18 +481,18 @@ impl Frame {
 
     /// What is set aside for the frame, of all that is.
     fn aside(self, set_aside: &[u32]) -> &[u32]
-        requires { (self.set_aside ≤ self.upto) × (self.upto ≤ length set_aside.now) }
+        requires { (self.set_aside_from ≤ self.set_aside_upto) × (self.set_aside_upto ≤ length set_aside.now) }
         ensures { result.now ≡ aside_of self set_aside.now }
     {
-        &set_aside[self.set_aside..self.upto]
+        &set_aside[self.set_aside_from..self.set_aside_upto]
     }
 
     /// The greatest vertices of these.
     fn greatest(self, set_aside: &[u32]) -> &[u32]
-        requires { (self.set_aside ≤ self.tops) × (self.tops ≤ length set_aside.now) }
+        requires { (self.set_aside_from ≤ self.tops_upto) × (self.tops_upto ≤ length set_aside.now) }
         ensures { result.now ≡ greatest_of self set_aside.now }
     {
-        &set_aside[self.set_aside..self.tops]
+        &set_aside[self.set_aside_from..self.tops_upto]
     }
 }
 
@@ -521,7 +531,7 @@ fn rows_of(
     for_even: usize,
     for_odd: usize,
 ) -> Result<(Vec<(u32, Option<u32>)>, Vec<(u32, Option<u32>)>), Memory>
-    requires { HasSize (length view.now.game.now) plan.now }
+    requires { length plan.now.rows.items ≡ length view.now.game.now }
     ensures even { IfOk result (λ rows. rows.0.items ≡ rows_below (won_inside (members view.now.mask.now) (winners_of plan.now) Even)
         (own_choices view.now.game.now Even (choices_of plan.now)) (length view.now.game.now)) }
     ensures odd { IfOk result (λ rows. rows.1.items ≡ rows_below (won_inside (members view.now.mask.now) (winners_of plan.now) Odd)
@@ -531,8 +541,8 @@ fn rows_of(
     let mut odd = Vec::with_capacity(alloc, for_odd)?;
     for v in 0..view.game.len() {
         if view.mask.has(v) {
-            let winner = plan.winner(v);
-            let choice = own_choice(view.game.forward(), winner, v, plan.choice(v));
+            let (winner, chosen) = plan.row(v);
+            let choice = own_choice(view.game.forward(), winner, v, chosen);
             match winner {
                 Player::Even => even.push((v, choice))?,
                 Player::Odd => odd.push((v, choice))?,

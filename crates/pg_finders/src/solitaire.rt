@@ -17,7 +17,7 @@ ghost use Rattle.pg_game.specs.Walk.{Walk};
 ghost use Rattle.pg_finders.specs.private.solitaire.Leading.{IsQueue, Follows};
 
 use crate::inside::{Inside, View};
-use pg_dominion::{Claim, StrategyGraph, is_bad, least_bad_vertex, own_choice};
+use pg_dominion::{Claim, StrategyGraph, is_bad, least_on_bad_cycle, own_choice};
 use pg_game::{Game, Mask, Memory, Player};
 use std::alloc::Global;
 
@@ -95,7 +95,7 @@ fn solve(alloc: Global, solitaire: &Solitaire) -> Result<Claim, Memory>
     let view = &solitaire.view;
     let forced = solitaire.forced;
     let kept = kept_of(alloc, solitaire)?;
-    match least_bad_vertex(alloc, &kept)? {
+    match least_on_bad_cycle(alloc, &kept)? {
         None => claim_of_set(alloc, view.game, forced, view.mask, kept.choices.as_slice()),
         Some(goal) => {
             let lead = lead_to(alloc, view, goal)?;

@@ -1,33 +1,36 @@
-//! Specifications in lists, which are sorted and resolved here, or have a first fault. A `GameBuilder` has whole
-//! specifications, each part in a list of its own, which is the game's where nothing has to be sorted. An `IncrementalBuilder`
-//! has one more that is not complete, so that a reader of texts writes each successor once.
+//! How specifications become a game, or have a first fault. A `GameBuilder` has specifications, each part in a list of its
+//! own, which is the game's where nothing has to be sorted. Its functions stand in the order of their calls. An
+//! `IncrementalBuilder` has one more specification that is not complete, so that a reader of texts writes each successor once.
 
 ghost use Rattle.std.specs.Prelude.{◌≡◌, ◌<◌, ◌≤◌, ◌^◌, ◌↔◌, ◌++◌, ◌∷◌, [], ℕ, length, map, slice_index, slice_index_or, All};
 ghost use Rattle.std.specs.Prelude.{IfOk, IfErr, OnOk, OnErr, IsTrue, None, Some};
 ghost use Rattle.std.specs.List.Sorted.{IsStrictlyIncreasing, IsNonDecreasing, IsPermutation};
 ghost use Rattle.pg_game.specs.Flat.{specs_from};
-ghost use Rattle.pg_game.specs.private.Stored.{AreParts};
+ghost use Rattle.pg_game.specs.private.Stored.{AreParts, AreWithinLimits, IsStored};
+ghost use Rattle.pg_game.specs.View.{graph_of};
 ghost use Rattle.pg_game.specs.declared.specification.Spec.{Spec};
-ghost use Rattle.pg_game.specs.Specification.{OrMemory, max_vertices, max_edges, edges, first_repeated, first_without};
-ghost use Rattle.pg_game.specs.private.Identifiers.{ids_of, twice_of, rows_fault};
+ghost use Rattle.pg_game.specs.Graph.{IsGame};
+ghost use Rattle.pg_game.specs.Specification.{AreNumbers, IsGameOf, OrMemory, max_vertices, max_edges, edges, first_fault, first_repeated, first_without};
+ghost use Rattle.pg_game.specs.private.Identifiers.{ids_of, priorities_of, owners_of, successor_lists, twice_of, rows_fault};
 ghost use Rattle.pg_game.specs.private.Lines.{AreLines};
 ghost use Rattle.pg_game.specs.private.Resolved.{AreResolvedSpecs};
 
 use crate::Memory;
 use crate::adjacency::{Adjacency, is_rising, put_rising};
+use crate::game::{ForwardGame, Game};
 use crate::identifiers::{Identifiers, index_set};
 use crate::player::Player;
-use crate::specification::{GameFault, MAX_EDGES, Spec};
+use crate::specification::{GameFault, MAX_EDGES, MAX_VERTICES, Spec};
 use std::alloc::Global;
 use std::marker::Model;
 
 /// Specifications in their order, part by part. The successors are identifiers.
 #[derive(Drop)]
 pub struct GameBuilder {
-    pub(crate) ids: Vec<u32>,
-    pub(crate) priorities: Vec<u32>,
-    pub(crate) owners: Vec<Player>,
-    pub(crate) rows: Adjacency,
+    ids: Vec<u32>,
+    priorities: Vec<u32>,
+    owners: Vec<Player>,
+    rows: Adjacency,
 }
 
 impl Model for GameBuilder {
@@ -44,6 +47,41 @@ impl Model for GameBuilder {
     ghost invariant = { λ s. AreParts s.ids.items s.priorities.items s.owners.items s.rows };
 }
 
+impl Game {
+    /// The game of these specifications, whose vertices go by rising identifier. Refused by the first fault, or by `Memory`.
+    pub fn from_specs(alloc: Global, specs: Vec<Spec>) -> Result<Game, GameFault>
+        requires { All AreNumbers specs.items }
+        ensures game { IfOk result (λ g. IsGame g × IsGameOf specs.items g × (first_fault specs.items ≡ None)) }
+        ensures fault { IfErr result (λ e. OrMemory (first_fault specs.items ≡ Some e) e) }
+    {
+        let flat = GameBuilder::of_list(alloc, specs.as_slice())?;
+        drop(specs);
+        let forward = ForwardGame::from_builder(alloc, flat)?;
+        Ok(Game::of_forward(alloc, forward)?)
+    }
+}
+
+impl ForwardGame {
+    /// The game of these specifications, whose vertices go by rising identifier. Where the identifiers are 0, 1 and so on and
+    /// successors rise, the lists are the game's. Refused by the first fault, or by `Memory`.
+    pub fn from_builder(alloc: Global, specs: GameBuilder) -> Result<ForwardGame, GameFault>
+        requires { All AreNumbers specs }
+        ensures game { IfOk result (λ g. IsGame g × IsGameOf specs g × (first_fault specs ≡ None)) }
+        ensures fault { IfErr result (λ e. OrMemory (first_fault specs ≡ Some e) e) }
+    {
+        if specs.ids.is_empty() {
+            return Err(GameFault::NoVertex);
+        }
+        if specs.ids.len() > MAX_VERTICES {
+            return Err(GameFault::TooManyVertices);
+        }
+        if is_rising(specs.ids.as_slice()) {
+            return specs.game_in_order(alloc);
+        }
+        specs.game_by_sorting(alloc)
+    }
+}
+
 impl GameBuilder {
     /// No specification, with capacity for `n` of them and `edges` successors in all. The only error is `Memory`.
     pub fn with_capacity(alloc: Global, n: usize, edges: usize) -> Result<GameBuilder, Memory>
@@ -58,7 +96,7 @@ impl GameBuilder {
     }
 
     /// The specifications of a list. The only error is `Memory`.
-    pub(crate) fn of_list(alloc: Global, list: &[Spec]) -> Result<GameBuilder, Memory>
+    fn of_list(alloc: Global, list: &[Spec]) -> Result<GameBuilder, Memory>
         ensures { IfOk result (λ s. s ≡ list.now) }
     {
         let mut specs = GameBuilder::with_capacity(alloc, list.len(), 0)?;
@@ -94,26 +132,34 @@ impl GameBuilder {
         Ok(())
     }
 
-    /// The specifications with these parts.
-    fn of_parts(
-        ids: Vec<u32>,
-        priorities: Vec<u32>,
-        owners: Vec<Player>,
-        rows: Adjacency,
-    ) -> GameBuilder
-        requires { AreParts ids.items priorities.items owners.items rows }
-        ensures { result ≡ specs_from ids.items priorities.items owners.items rows }
+    /// The game where identifiers rise. Where they are 0, 1 and so on and each row rises, the lists are used unchanged.
+    fn game_in_order(self, alloc: Global) -> Result<ForwardGame, GameFault>
+        requires limits { AreWithinLimits self }
+        requires rising { IsStrictlyIncreasing (ids_of self) }
+        ensures game { IfOk result (λ g. IsGame g × IsGameOf self g × (first_fault self ≡ None)) }
+        ensures fault { IfErr result (λ e. OrMemory (first_fault self ≡ Some e) e) }
     {
-        GameBuilder {
-            ids,
-            priorities,
-            owners,
-            rows,
-        }
+        let identifiers = Identifiers::of_rising(alloc, self.ids.as_slice())?;
+        let resolved = self.resolved(alloc, &identifiers)?;
+        Ok(resolved.into_game(identifiers))
+    }
+
+    /// The game of specifications in any order, which are sorted by identifier.
+    fn game_by_sorting(self, alloc: Global) -> Result<ForwardGame, GameFault>
+        requires { AreWithinLimits self }
+        ensures game { IfOk result (λ g. IsGame g × IsGameOf self g × (first_fault self ≡ None)) }
+        ensures fault { IfErr result (λ e. OrMemory (first_fault self ≡ Some e) e) }
+    {
+        let list = self.sorted_lines(alloc)?;
+        let lines = list.as_slice();
+        let identifiers = self.distinct_identifiers(alloc, lines)?;
+        let resolved = self.resolved(alloc, &identifiers)?;
+        let sorted = resolved.picked(alloc, lines)?;
+        Ok(sorted.into_game(identifiers))
     }
 
     /// A pair of each identifier and its line, by rising identifier. The only error is `Memory`.
-    pub(crate) fn sorted_lines(&self, alloc: Global) -> Result<Vec<(u32, u32)>, Memory>
+    fn sorted_lines(&self, alloc: Global) -> Result<Vec<(u32, u32)>, Memory>
         requires { length self.now ≤ max_vertices }
         ensures { IfOk result (λ lines. AreLines (ids_of self.now) lines.items) }
     {
@@ -123,7 +169,7 @@ impl GameBuilder {
     }
 
     /// The identifiers of the lines. Refused by the first identifier that is earlier in the list, or by `Memory`.
-    pub(crate) fn distinct_identifiers(
+    fn distinct_identifiers(
         &self,
         alloc: Global,
         lines: &[(u32, u32)],
@@ -159,11 +205,7 @@ impl GameBuilder {
 
     /// The specifications with vertices for successors, each once, rising. A vertex is the place of its identifier. Refused by
     /// the first fault of a row, or by `Memory`.
-    pub(crate) fn resolved(
-        self,
-        alloc: Global,
-        identifiers: &Identifiers,
-    ) -> Result<GameBuilder, GameFault>
+    fn resolved(self, alloc: Global, identifiers: &Identifiers) -> Result<GameBuilder, GameFault>
         requires few { length self ≤ max_vertices }
         requires identifiers { IsPermutation (ids_of self) identifiers.now }
         ensures resolved { IfOk result (λ resolved. AreResolvedSpecs identifiers.now self resolved) }
@@ -222,8 +264,26 @@ impl GameBuilder {
         Ok(false)
     }
 
+    /// The specifications with these parts.
+    fn of_parts(
+        ids: Vec<u32>,
+        priorities: Vec<u32>,
+        owners: Vec<Player>,
+        rows: Adjacency,
+    ) -> GameBuilder
+        requires { AreParts ids.items priorities.items owners.items rows }
+        ensures { result ≡ specs_from ids.items priorities.items owners.items rows }
+    {
+        GameBuilder {
+            ids,
+            priorities,
+            owners,
+            rows,
+        }
+    }
+
     /// The specifications of these lines. The only error is `Memory`.
-    pub(crate) fn picked(&self, alloc: Global, lines: &[(u32, u32)]) -> Result<GameBuilder, Memory>
+    fn picked(&self, alloc: Global, lines: &[(u32, u32)]) -> Result<GameBuilder, Memory>
         requires { All (λ line. line.1 < length self.now) lines.now }
         ensures { IfOk result (λ specs. (d : Spec) → specs ≡ map (λ line. slice_index_or self.now line.1 d) lines.now) }
     {
@@ -237,6 +297,20 @@ impl GameBuilder {
             specs.push(id, priority, owner, row)?;
         }
         Ok(specs)
+    }
+
+    /// The game whose vertices have these identifiers, and the specifications' successors as vertices.
+    fn into_game(self, identifiers: Identifiers) -> ForwardGame
+        requires { IsStored identifiers (priorities_of self) (owners_of self) (successor_lists self) }
+        ensures { result ≡ graph_of identifiers (priorities_of self) (owners_of self) (successor_lists self) }
+    {
+        let GameBuilder {
+            ids: _ids,
+            priorities,
+            owners,
+            rows,
+        } = self;
+        ForwardGame::of_parts(identifiers, priorities, owners, rows)
     }
 }
 

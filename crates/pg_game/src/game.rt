@@ -1,22 +1,17 @@
-//! Parity games in the terms of PGSolver's manual: how specifications become one, and its look-ups. Vertices go by rising
-//! identifier. A `ForwardGame` has successors alone, and a `Game` has predecessors too.
+//! Parity games in the terms of PGSolver's manual. Vertices go by rising identifier. A `ForwardGame` has successors alone,
+//! and a `Game` has predecessors too. `builder` makes both of specifications.
 
-ghost use Rattle.std.specs.Prelude.{◌≡◌, ◌<◌, ◌^◌, ◌↔◌, ℕ, length, slice_index, IfOk, IsTrue, IfErr, IfSome, IfNone, All, Some, None};
+ghost use Rattle.std.specs.Prelude.{◌≡◌, ◌<◌, ◌^◌, ◌↔◌, ℕ, length, slice_index, IfOk, IsTrue, IfSome, IfNone};
 ghost use Rattle.pg_game.specs.Predecessors.{ArePredecessors};
-ghost use Rattle.std.specs.List.Sorted.{IsStrictlyIncreasing};
-ghost use Rattle.pg_game.specs.Specification.{AreNumbers, IsGameOf, first_fault, OrMemory};
-ghost use Rattle.pg_game.specs.private.Identifiers.{ids_of, priorities_of, owners_of, successor_lists};
-ghost use Rattle.pg_game.specs.private.Stored.{AreWithinLimits, IsStored};
+ghost use Rattle.pg_game.specs.private.Stored.{IsStored};
 ghost use Rattle.pg_game.specs.View.{graph_of};
 ghost use Rattle.pg_game.specs.Limits.{IsWithinLimits};
 ghost use Rattle.pg_game.specs.Graph.{IsGame, id_of, priority_of, owner_of, successors_of, HasEdge};
 
 use crate::Memory;
-use crate::adjacency::{Adjacency, is_rising};
-use crate::builder::GameBuilder;
+use crate::adjacency::Adjacency;
 use crate::identifiers::Identifiers;
 use crate::player::Player;
-use crate::specification::{GameFault, MAX_VERTICES, Spec};
 use std::alloc::Global;
 use std::marker::Model;
 
@@ -39,18 +34,6 @@ impl Model for Game {
 }
 
 impl Game {
-    /// The game of these specifications, whose vertices go by rising identifier. Refused by the first fault, or by `Memory`.
-    pub fn from_specs(alloc: Global, specs: Vec<Spec>) -> Result<Game, GameFault>
-        requires { All AreNumbers specs.items }
-        ensures game { IfOk result (λ g. IsGame g × IsGameOf specs.items g × (first_fault specs.items ≡ None)) }
-        ensures fault { IfErr result (λ e. OrMemory (first_fault specs.items ≡ Some e) e) }
-    {
-        let flat = GameBuilder::of_list(alloc, specs.as_slice())?;
-        drop(specs);
-        let forward = ForwardGame::from_builder(alloc, flat)?;
-        Ok(Game::of_forward(alloc, forward)?)
-    }
-
     /// The same game with predecessors. `Memory` is its only error.
     pub fn of_forward(alloc: Global, forward: ForwardGame) -> Result<Game, Memory>
         ensures { IfOk result (λ g. g ≡ forward) }
@@ -200,23 +183,22 @@ impl Model for ForwardGame {
 }
 
 impl ForwardGame {
-    /// The game of these specifications, whose vertices go by rising identifier. Where the identifiers are 0, 1 and so on and
-    /// successors rise, the lists are the game's. Refused by the first fault, or by `Memory`.
-    pub fn from_builder(alloc: Global, specs: GameBuilder) -> Result<ForwardGame, GameFault>
-        requires { All AreNumbers specs }
-        ensures game { IfOk result (λ g. IsGame g × IsGameOf specs g × (first_fault specs ≡ None)) }
-        ensures fault { IfErr result (λ e. OrMemory (first_fault specs ≡ Some e) e) }
+    /// The game with these parts.
+    pub(crate) fn of_parts(
+        identifiers: Identifiers,
+        priorities: Vec<u32>,
+        owners: Vec<Player>,
+        successors: Adjacency,
+    ) -> ForwardGame
+        requires { IsStored identifiers priorities.items owners.items successors }
+        ensures { result ≡ graph_of identifiers priorities.items owners.items successors }
     {
-        if specs.ids.is_empty() {
-            return Err(GameFault::NoVertex);
+        ForwardGame {
+            identifiers,
+            priorities,
+            owners,
+            successors,
         }
-        if specs.ids.len() > MAX_VERTICES {
-            return Err(GameFault::TooManyVertices);
-        }
-        if is_rising(specs.ids.as_slice()) {
-            return specs.game_in_order(alloc);
-        }
-        specs.game_by_sorting(alloc)
     }
 
     /// How many vertices there are: from 1 to 1,048,576.
@@ -322,52 +304,5 @@ impl Drop for ForwardGame {
             owners: _owners,
             successors: _successors,
         } = self;
-    }
-}
-
-impl GameBuilder {
-    /// The game where identifiers rise. Where they are 0, 1 and so on and each row rises, the lists are used unchanged.
-    fn game_in_order(self, alloc: Global) -> Result<ForwardGame, GameFault>
-        requires limits { AreWithinLimits self }
-        requires rising { IsStrictlyIncreasing (ids_of self) }
-        ensures game { IfOk result (λ g. IsGame g × IsGameOf self g × (first_fault self ≡ None)) }
-        ensures fault { IfErr result (λ e. OrMemory (first_fault self ≡ Some e) e) }
-    {
-        let identifiers = Identifiers::of_rising(alloc, self.ids.as_slice())?;
-        let resolved = self.resolved(alloc, &identifiers)?;
-        Ok(resolved.into_game(identifiers))
-    }
-
-    /// The game of specifications in any order, which are sorted by identifier.
-    fn game_by_sorting(self, alloc: Global) -> Result<ForwardGame, GameFault>
-        requires { AreWithinLimits self }
-        ensures game { IfOk result (λ g. IsGame g × IsGameOf self g × (first_fault self ≡ None)) }
-        ensures fault { IfErr result (λ e. OrMemory (first_fault self ≡ Some e) e) }
-    {
-        let list = self.sorted_lines(alloc)?;
-        let lines = list.as_slice();
-        let identifiers = self.distinct_identifiers(alloc, lines)?;
-        let resolved = self.resolved(alloc, &identifiers)?;
-        let sorted = resolved.picked(alloc, lines)?;
-        Ok(sorted.into_game(identifiers))
-    }
-
-    /// The game whose vertices have these identifiers, and the specifications' successors as vertices.
-    fn into_game(self, identifiers: Identifiers) -> ForwardGame
-        requires { IsStored identifiers (priorities_of self) (owners_of self) (successor_lists self) }
-        ensures { result ≡ graph_of identifiers (priorities_of self) (owners_of self) (successor_lists self) }
-    {
-        let GameBuilder {
-            ids: _ids,
-            priorities,
-            owners,
-            rows,
-        } = self;
-        ForwardGame {
-            identifiers,
-            priorities,
-            owners,
-            successors: rows,
-        }
     }
 }

@@ -37,11 +37,11 @@ pub use Rattle.pg_text.specs.Written.{greatest_id, written_choice, written_game,
 unfoldable pub use Rattle.pg_text.specs.Written.{numeral}
 pub use Rattle.pg_text.specs.declared.fault.SolutionTextFault.{SolutionTextFault}
 pub use Rattle.pg_text.specs.declared.fault.SolutionTextFault.TheVariants.{Stranger}
-pub use Rattle.pg_text.specs.declared.lexer.Kind.{Kind}
+pub use Rattle.pg_text.specs.declared.lexer.TokenKind.{TokenKind}
 pub use Rattle.pg_text.specs.declared.solution_text.Solution.{Solution}
 pub use Rattle.pg_text.specs.declared.solution_text.SolutionLine.{SolutionLine}
 pub use Rattle.pg_text.specs.private.FirstFault.{FirstLarge, first_at, placed}
-pub use Rattle.pg_text.specs.private.Lexeme.{IsNoToken, IsLexemeOf, IsRun, IsToken}
+pub use Rattle.pg_text.specs.private.Lexeme.{IsNoToken, IsLexemeOf, IsRun, IsToken, kind_of, value_in}
 pub use Rattle.pg_text.specs.private.Reach.{IsBadFrom, ReadsTo, SpellsRest}
 pub use Rattle.pg_text.specs.private.SolutionReads.{line_of}
 pub use Rattle.pg_text.specs.private.SolutionTable.{HoldsLines, HoldsTable, IsLookUpFaultOf, IsNamed}

@@ -3,7 +3,8 @@
 ghost use Rattle.std.specs.Prelude.{IfOk, true, []};
 ghost use Rattle.pg_text.specs.private.GameReads.{ReadsGame};
 
-use crate::reader::{Grammar, State, Symbol};
+use crate::lexer::TokenKind;
+use crate::reader::{Grammar, State};
 use pg_game::{GameBuilder, IncrementalBuilder, Memory, Player};
 use std::alloc::Global;
 
@@ -49,37 +50,38 @@ impl Grammar for GameText {
     ghost Reads = { ReadsGame };
 
     #[inline(always)]
-    fn take(&mut self, state: State, symbol: Symbol, value: u32) -> Result<Option<State>, Memory> {
-        match (symbol, state) {
-            (Symbol::Number, State::Start | State::Headed | State::Started | State::Ready) => {
-                self.id = value;
-                Ok(Some(State::Id))
-            }
-            (Symbol::Number, State::Id) => {
-                self.priority = value;
+    fn take(&mut self, state: State, kind: TokenKind) -> Result<Option<State>, Memory> {
+        match (kind, state) {
+            (TokenKind::Number(id), State::Start | State::Headed | State::Started | State::Ready) =>
+                {
+                    self.id = id;
+                    Ok(Some(State::Id))
+                }
+            (TokenKind::Number(priority), State::Id) => {
+                self.priority = priority;
                 Ok(Some(State::Priority))
             }
-            (Symbol::Number, State::Priority) => {
-                self.owner = Player::of_digit(value);
+            (TokenKind::Number(digit), State::Priority) => {
+                self.owner = Player::of_digit(digit);
                 self.specs.clear();
                 Ok(Some(State::Player))
             }
-            (Symbol::Number, State::Player | State::Listing) => {
-                self.specs.push(value)?;
+            (TokenKind::Number(successor), State::Player | State::Listing) => {
+                self.specs.push(successor)?;
                 Ok(Some(State::Vertex))
             }
-            (Symbol::Comma, State::Vertex) => Ok(Some(State::Listing)),
-            (Symbol::Name, State::Vertex) => Ok(Some(State::Named)),
-            (Symbol::Semicolon, State::Vertex | State::Named) => {
+            (TokenKind::Comma, State::Vertex) => Ok(Some(State::Listing)),
+            (TokenKind::Name, State::Vertex) => Ok(Some(State::Named)),
+            (TokenKind::Semicolon, State::Vertex | State::Named) => {
                 self.specs.close(self.id, self.priority, self.owner)?;
                 Ok(Some(State::Ready))
             }
-            (Symbol::Parity, State::Start) => Ok(Some(State::HeadWord)),
-            (Symbol::Number, State::HeadWord) => Ok(Some(State::HeadNumber)),
-            (Symbol::Semicolon, State::HeadNumber) => Ok(Some(State::Headed)),
-            (Symbol::Start, State::Start | State::Headed) => Ok(Some(State::StartWord)),
-            (Symbol::Number, State::StartWord) => Ok(Some(State::StartNumber)),
-            (Symbol::Semicolon, State::StartNumber) => Ok(Some(State::Started)),
+            (TokenKind::Parity, State::Start) => Ok(Some(State::HeadWord)),
+            (TokenKind::Number(_), State::HeadWord) => Ok(Some(State::HeadNumber)),
+            (TokenKind::Semicolon, State::HeadNumber) => Ok(Some(State::Headed)),
+            (TokenKind::Start, State::Start | State::Headed) => Ok(Some(State::StartWord)),
+            (TokenKind::Number(_), State::StartWord) => Ok(Some(State::StartNumber)),
+            (TokenKind::Semicolon, State::StartNumber) => Ok(Some(State::Started)),
             _ => Ok(None),
         }
     }

@@ -2,18 +2,24 @@
 //! common ones and stay in one small function; words and names are out of line. A number of any length is read in 64 bits,
 //! since its value stops growing once it is above the limit.
 
-ghost use Rattle.std.specs.Prelude.{◌≡◌, ◌≢◌, ◌+◌, ◌<◌, ◌≤◌, length, slice_index, false, MatchOption, IfSome, Some};
+ghost use Rattle.std.specs.Prelude.{◌≡◌, ◌≢◌, ◌+◌, ◌<◌, ◌≤◌, nat_lt, length, slice_index, false, MatchOption, IfSome};
+ghost use Rattle.pg_game.specs.Specification.{max_number};
 ghost use Rattle.pg_text.specs.Bytes as bytes;
-ghost use Rattle.pg_text.specs.private.Lexeme.{IsNextLexeme, IsRangeOf, IsWholeRun, IsWholeNumber};
+ghost use Rattle.pg_text.specs.Token.{Word};
+ghost use Rattle.pg_text.specs.private.Lexeme.{kind_of, value_in, IsLexemeOf, IsNextLexeme, IsRangeOf, IsWholeRun, IsWholeNumber};
 ghost use Rattle.pg_text.specs.private.Reach.{SpellsRest, IsBadFrom};
 
 use memchr::memchr;
 
-/// What a token is. A number above the limit has no value here.
+/// What a token is, or what is in its place: the text's end, or a byte that begins no token. The grammars have three words. A
+/// number above the limit is read as 2147483648.
 #[derive(Clone, Copy)]
-pub enum Kind {
-    Number(Option<u32>),
-    Word,
+pub enum TokenKind {
+    Number(u32),
+    Parity,
+    Paritysol,
+    Start,
+    OtherWord,
     Name,
     Comma,
     Semicolon,
@@ -21,10 +27,23 @@ pub enum Kind {
     Invalid,
 }
 
+impl TokenKind {
+    /// Whether it is a number above the limit.
+    #[inline(always)]
+    pub fn is_large(self) -> bool
+        ensures { result ≡ nat_lt max_number (value_in self) }
+    {
+        match self {
+            TokenKind::Number(value) => u64::from(value) > GREATEST,
+            _ => false,
+        }
+    }
+}
+
 /// A token of a text, or what is in its place.
 #[derive(Clone, Copy)]
 pub struct Lexeme {
-    pub kind: Kind,
+    pub kind: TokenKind,
     pub from: usize,
     pub to: usize,
 }
@@ -39,35 +58,13 @@ pub fn next_token(text: &[u8], at: usize) -> Lexeme
     let from = blanks_end(text, at);
     if from >= text.len() {
         return Lexeme {
-            kind: Kind::End,
+            kind: TokenKind::End,
             from,
             to: from,
         };
     }
-    let first = text[from];
-    if is_digit(first) {
-        let (value, to) = read_number(text, from);
-        return Lexeme {
-            kind: Kind::Number(value),
-            from,
-            to,
-        };
-    }
-    if first == b',' {
-        return Lexeme {
-            kind: Kind::Comma,
-            from,
-            to: from + 1,
-        };
-    }
-    if first == b';' {
-        return Lexeme {
-            kind: Kind::Semicolon,
-            from,
-            to: from + 1,
-        };
-    }
-    word_or_name(text, from)
+    let (kind, to) = token_at(text, from);
+    Lexeme { kind, from, to }
 }
 
 /// The first place from `at` on that begins no token.
@@ -81,10 +78,30 @@ pub fn first_invalid(text: &[u8], at: usize) -> Option<usize>
     'tokens: loop {
         let lexeme = next_token(text, next);
         match lexeme.kind {
-            Kind::Invalid => return Some(lexeme.from),
-            Kind::End => return None,
+            TokenKind::Invalid => return Some(lexeme.from),
+            TokenKind::End => return None,
             _ => next = lexeme.to,
         }
+    }
+}
+
+/// The token that begins at a place, or that none does; and the place after it.
+#[inline(always)]
+fn token_at(text: &[u8], from: usize) -> (TokenKind, usize)
+    requires inside { from < length text.now }
+    requires solid { bytes.is_blank (slice_index text.now from) ≡ false }
+    ensures token { IsLexemeOf result.0 text.now from from result.1 }
+    ensures range { IsRangeOf text.now from result.1 }
+{
+    let first = text[from];
+    if is_digit(first) {
+        let (value, to) = read_number(text, from);
+        return (TokenKind::Number(value), to);
+    }
+    match first {
+        b',' => (TokenKind::Comma, from + 1),
+        b';' => (TokenKind::Semicolon, from + 1),
+        _ => word_or_name(text, from),
     }
 }
 
@@ -117,15 +134,15 @@ fn is_digit(byte: u8) -> bool
     b'0' <= byte && byte <= b'9'
 }
 
-/// The value of the digits from `from` on, and the place after them. It has no value above the limit.
+/// The value of the digits from `from` on, and the place after them.
 #[inline(always)]
-fn read_number(text: &[u8], from: usize) -> (Option<u32>, usize)
+fn read_number(text: &[u8], from: usize) -> (u32, usize)
     requires { from ≤ length text.now }
     ensures { IsWholeNumber text.now from result.1 result.0 }
 {
     if text.len() - from >= SHORT {
-        if let Some((value, to)) = short_number(text, from) {
-            return (Some(value), to);
+        if let Some(number) = short_number(text, from) {
+            return number;
         }
     }
     long_number(text, from)
@@ -139,7 +156,7 @@ const SHORT: usize = 11;
 #[inline(always)]
 fn short_number(text: &[u8], from: usize) -> Option<(u32, usize)>
     requires { from + 11 ≤ length text.now }
-    ensures { IfSome result (λ n. IsWholeNumber text.now from n.1 (Some n.0)) }
+    ensures { IfSome result (λ n. IsWholeNumber text.now from n.1 n.0) }
 {
     let mut value = 0u64;
     'digits: for k in 0..SHORT {
@@ -158,9 +175,12 @@ fn short_number(text: &[u8], from: usize) -> Option<(u32, usize)>
 /// The greatest number that a text may hold.
 const GREATEST: u64 = 2147483647;
 
+/// What a number above the limit is read as.
+const ABOVE: u32 = 2147483648;
+
 /// The value of any number of digits from `from` on, and the place after them.
 #[inline(never)]
-fn long_number(text: &[u8], from: usize) -> (Option<u32>, usize)
+fn long_number(text: &[u8], from: usize) -> (u32, usize)
     requires { from ≤ length text.now }
     ensures { IsWholeNumber text.now from result.1 result.0 }
 {
@@ -173,50 +193,50 @@ fn long_number(text: &[u8], from: usize) -> (Option<u32>, usize)
         to += 1;
     }
     if value <= GREATEST {
-        (Some(value as u32), to)
+        (value as u32, to)
     } else {
-        (None, to)
+        (ABOVE, to)
     }
 }
 
-/// The word or the name at a place, or that there is none.
+/// The word or the name at a place, or that there is none; and the place after it.
 #[inline(never)]
-fn word_or_name(text: &[u8], from: usize) -> Lexeme
+fn word_or_name(text: &[u8], from: usize) -> (TokenKind, usize)
     requires inside { from < length text.now }
     requires solid { bytes.is_blank (slice_index text.now from) ≡ false }
     requires no_digit { bytes.is_digit (slice_index text.now from) ≡ false }
     requires no_comma { slice_index text.now from ≢ 44 }
     requires no_semicolon { slice_index text.now from ≢ 59 }
-    ensures token { IsNextLexeme text.now from result }
-    ensures range { IsRangeOf text.now result.from result.to }
+    ensures token { IsLexemeOf result.0 text.now from from result.1 }
+    ensures range { IsRangeOf text.now from result.1 }
 {
     let first = text[from];
     if first == b'"' {
         let later = &text[from + 1..];
         return match memchr(b'"', later) {
-            Some(more) => Lexeme {
-                kind: Kind::Name,
-                from,
-                to: from + more + 2,
-            },
-            None => Lexeme {
-                kind: Kind::Invalid,
-                from,
-                to: from,
-            },
+            Some(more) => (TokenKind::Name, from + more + 2),
+            None => (TokenKind::Invalid, from),
         };
     }
     if is_letter(first) {
-        return Lexeme {
-            kind: Kind::Word,
-            from,
-            to: letters_end(text, from),
-        };
+        let to = letters_end(text, from);
+        return (word_kind(&text[from..to]), to);
     }
-    Lexeme {
-        kind: Kind::Invalid,
-        from,
-        to: from,
+    (TokenKind::Invalid, from)
+}
+
+/// Which word the letters are.
+fn word_kind(letters: &[u8]) -> TokenKind
+    ensures { result ≡ kind_of (Word letters.now) }
+{
+    if letters == b"parity".as_slice() {
+        TokenKind::Parity
+    } else if letters == b"paritysol".as_slice() {
+        TokenKind::Paritysol
+    } else if letters == b"start".as_slice() {
+        TokenKind::Start
+    } else {
+        TokenKind::OtherWord
     }
 }
 

@@ -4,15 +4,14 @@
 //! no token.
 
 ghost use Rattle.std.specs.Prelude.{◌≡◌, ℕ, ◌≤◌, true, length, IfOk, MatchResult, List, [], Bool};
-ghost use Rattle.pg_text.specs.Token.{Placed, Spells, Token, Word};
+ghost use Rattle.pg_text.specs.Token.{Placed, Spells, Token};
 ghost use Rattle.pg_text.specs.Reading.{max_text};
-ghost use Rattle.pg_text.specs.private.Lexeme.{IsRangeOf, fitting};
-ghost use Rattle.pg_text.specs.private.Parsing.{KeepsReader, ReaderTakes, OfToken, IsUnexpected, SpellsLines, IsParseFaultOf};
-ghost use Rattle.pg_text.specs.private.Machine.{symbol_of, number_of};
+ghost use Rattle.pg_text.specs.private.Lexeme.{IsRangeOf, value_in};
+ghost use Rattle.pg_text.specs.private.Parsing.{KeepsReader, ReaderTakes, IsUnexpected, SpellsLines, IsParseFaultOf};
 ghost use Rattle.pg_text.specs.private.FirstFault.{first_at, wrong_in};
 
 use crate::fault::ParseFault;
-use crate::lexer::{Kind, Lexeme, first_invalid, next_token};
+use crate::lexer::{Lexeme, TokenKind, first_invalid, next_token};
 use pg_game::Memory;
 
 /// What a text of a grammar says, read up to some token.
@@ -40,9 +39,9 @@ pub trait Grammar {
     /// These tokens lead to the state. Where the flag is true, this holds what they say, and the players so far are 0 and 1.
     ghost Reads: { Bool → List Token → State → Self → Type 0 };
 
-    /// Takes a token, by its symbol, and by its value if it is a number. The next state; none where the token is not allowed.
-    fn take(&mut self, state: State, symbol: Symbol, value: u32) -> Result<Option<State>, Memory>
-        ensures { IfOk result (λ next. Takes Reads BeginsText IsBeforePlayer self.old self.new state symbol value next) };
+    /// Takes a token. The next state; none where the token is not allowed.
+    fn take(&mut self, state: State, kind: TokenKind) -> Result<Option<State>, Memory>
+        ensures { IfOk result (λ next. Takes Reads BeginsText IsBeforePlayer self.old self.new state kind next) };
 
     /// Whether a text may end in this state.
     fn is_complete(state: State) -> bool
@@ -73,11 +72,11 @@ pub fn read_lines<G: Grammar + Drop>(grammar: G, text: &[u8]) -> Result<G::Lines
     'tokens: loop {
         let lexeme = next_token(text, at);
         match lexeme.kind {
-            Kind::End => return reader.finish(text.len() as u32),
-            Kind::Invalid => return Err(ParseFault::Lexical(lexeme.from as u32)),
+            TokenKind::End => return reader.finish(text.len() as u32),
+            TokenKind::Invalid => return Err(ParseFault::Lexical(lexeme.from as u32)),
             _ => {}
         }
-        if !reader.take(text, lexeme)? {
+        if !reader.take(lexeme)? {
             return Err(unexpected::<G>(text, lexeme.from, lexeme.to));
         }
         at = lexeme.to;
@@ -85,7 +84,7 @@ pub fn read_lines<G: Grammar + Drop>(grammar: G, text: &[u8]) -> Result<G::Lines
 }
 
 /// What was read last.
-#[derive(Clone, Copy, PartialEq, Eq)]
+#[derive(Clone, Copy)]
 pub enum State {
     Start,
     HeadWord,
@@ -103,19 +102,6 @@ pub enum State {
     Named,
 }
 
-/// What a token is to a grammar.
-#[derive(Clone, Copy, PartialEq, Eq)]
-pub enum Symbol {
-    Number,
-    Parity,
-    Paritysol,
-    Start,
-    Unknown,
-    Name,
-    Comma,
-    Semicolon,
-}
-
 /// A text that is being read, the first number above the limit, and the first player above 1.
 #[derive(Drop)]
 struct Reader<G> {
@@ -128,19 +114,16 @@ struct Reader<G> {
 impl<G: Grammar + Drop> Reader<G> {
     /// Takes a token; false where it is not allowed.
     #[inline(always)]
-    fn take(&mut self, text: &[u8], lexeme: Lexeme) -> Result<bool, Memory>
-        requires size { length text.now ≤ max_text }
-        requires range { IsRangeOf text.now lexeme.from lexeme.to }
-        ensures { IfOk result (λ taken. OfToken (ReaderTakes G.Reads G.BeginsText G.IsBeforePlayer self.old self.new taken) text.now lexeme) }
+    fn take(&mut self, lexeme: Lexeme) -> Result<bool, Memory>
+        requires { lexeme.from ≤ max_text }
+        ensures { IfOk result (λ taken. ReaderTakes G.Reads G.BeginsText G.IsBeforePlayer self.old self.new taken lexeme) }
     {
-        let (symbol, value) = symbol_and_value(text, lexeme);
         let place = lexeme.from as u32;
-        note_first(&mut self.large, value.is_none(), place);
-        let small = value.unwrap_or(0);
-        match self.grammar.take(self.state, symbol, small)? {
+        note_first(&mut self.large, lexeme.kind.is_large(), place);
+        match self.grammar.take(self.state, lexeme.kind)? {
             Some(state) => {
                 self.state = state;
-                note_first(&mut self.wrong, is_wrong(state, small), place);
+                note_first(&mut self.wrong, is_wrong(state, lexeme.kind), place);
                 Ok(true)
             }
             None => Ok(false),
@@ -165,44 +148,13 @@ impl<G: Grammar + Drop> Reader<G> {
     }
 }
 
-/// The symbol of a token, and its value: 0 of what is no number, and none above the limit.
+/// Whether a player above 1 was read.
 #[inline(always)]
-fn symbol_and_value(text: &[u8], lexeme: Lexeme) -> (Symbol, Option<u32>)
-    requires { IsRangeOf text.now lexeme.from lexeme.to }
-    ensures { OfToken (λ t place. (result.0 ≡ symbol_of t) × (result.1 ≡ fitting (number_of t))) text.now lexeme }
+fn is_wrong(state: State, kind: TokenKind) -> bool
+    ensures { result ≡ wrong_in state (value_in kind) }
 {
-    match lexeme.kind {
-        Kind::Number(value) => (Symbol::Number, value),
-        Kind::Word => (word_symbol(&text[lexeme.from..lexeme.to]), Some(0)),
-        Kind::Name => (Symbol::Name, Some(0)),
-        Kind::Comma => (Symbol::Comma, Some(0)),
-        Kind::Semicolon => (Symbol::Semicolon, Some(0)),
-        Kind::End | Kind::Invalid => (Symbol::Unknown, Some(0)),
-    }
-}
-
-/// The symbol of a word.
-fn word_symbol(letters: &[u8]) -> Symbol
-    ensures { result ≡ symbol_of (Word letters.now) }
-{
-    if letters == b"parity".as_slice() {
-        Symbol::Parity
-    } else if letters == b"paritysol".as_slice() {
-        Symbol::Paritysol
-    } else if letters == b"start".as_slice() {
-        Symbol::Start
-    } else {
-        Symbol::Unknown
-    }
-}
-
-/// Whether the value is no player's, where a player was read.
-#[inline(always)]
-fn is_wrong(state: State, value: u32) -> bool
-    ensures { result ≡ wrong_in state value }
-{
-    match state {
-        State::Player => 1 < value,
+    match (state, kind) {
+        (State::Player, TokenKind::Number(value)) => 1 < value,
         _ => false,
     }
 }

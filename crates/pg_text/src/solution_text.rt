@@ -17,7 +17,8 @@ ghost use Rattle.pg_text.specs.private.SolutionTable.{HoldsTable, IsNamed, IsStr
 ghost use Rattle.pg_text.specs.Known.{AreKnownLinesOf};
 
 use crate::fault::{ParseFault, SolutionTextFault};
-use crate::reader::{Grammar, State, Symbol, read_lines};
+use crate::lexer::TokenKind;
+use crate::reader::{Grammar, State, read_lines};
 use pg_game::{ForwardGame, Mask, Memory, Player, Sequence};
 use std::alloc::Global;
 
@@ -64,22 +65,22 @@ impl Grammar for SolutionText {
     ghost Reads = { ReadsSolution };
 
     #[inline(always)]
-    fn take(&mut self, state: State, symbol: Symbol, value: u32) -> Result<Option<State>, Memory> {
-        match (symbol, state) {
-            (Symbol::Number, State::Start | State::Headed | State::Ready) => {
-                self.id = value;
+    fn take(&mut self, state: State, kind: TokenKind) -> Result<Option<State>, Memory> {
+        match (kind, state) {
+            (TokenKind::Number(id), State::Start | State::Headed | State::Ready) => {
+                self.id = id;
                 Ok(Some(State::Id))
             }
-            (Symbol::Number, State::Id) => {
-                self.winner = Player::of_digit(value);
+            (TokenKind::Number(digit), State::Id) => {
+                self.winner = Player::of_digit(digit);
                 self.choice = None;
                 Ok(Some(State::Player))
             }
-            (Symbol::Number, State::Player) => {
-                self.choice = Some(value);
+            (TokenKind::Number(choice), State::Player) => {
+                self.choice = Some(choice);
                 Ok(Some(State::Vertex))
             }
-            (Symbol::Semicolon, State::Player | State::Vertex) => {
+            (TokenKind::Semicolon, State::Player | State::Vertex) => {
                 self.lines.push(SolutionLine {
                     id: self.id,
                     winner: self.winner,
@@ -87,9 +88,9 @@ impl Grammar for SolutionText {
                 })?;
                 Ok(Some(State::Ready))
             }
-            (Symbol::Paritysol, State::Start) => Ok(Some(State::HeadWord)),
-            (Symbol::Number, State::HeadWord) => Ok(Some(State::HeadNumber)),
-            (Symbol::Semicolon, State::HeadNumber) => Ok(Some(State::Headed)),
+            (TokenKind::Paritysol, State::Start) => Ok(Some(State::HeadWord)),
+            (TokenKind::Number(_), State::HeadWord) => Ok(Some(State::HeadNumber)),
+            (TokenKind::Semicolon, State::HeadNumber) => Ok(Some(State::Headed)),
             _ => Ok(None),
         }
     }

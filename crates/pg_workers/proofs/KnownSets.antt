@@ -121,7 +121,7 @@ module _ (g : Graph) (game : IsGame g) (known : KnownRows) (sized : length known
     none_known : (v : ℕ) → K v ≡ false
     none_known v = sym (rows_named v) ∙ subst (λ (xs : ClaimRows). named xs v ≡ false) (sym (nil_from_length rows empty)) refl
 
-    pub region_of_none : IsKnownRegion g known p
+    region_of_none : IsKnownRegion g known p
     region_of_none = empty_region g game known p none_known
 
     nothing_attracted : (v : ℕ) → IsAttractedToKnown g known p v → ⊥

@@ -1,5 +1,5 @@
 -- What is known of a game before it is solved, as regions: what a run keeps of it, and why it refuses a set that is none.
-use Rattle.std.specs.Prelude.{ℕ, ◌≡◌, ◌+◌, ◌-◌, ◌↔◌, false, Option, List, [], length, nat_eq, Some, option_map, slice_get}
+use Rattle.std.specs.Prelude.{ℕ, ◌≡◌, ◌+◌, ◌-◌, ◌<◌, ◌↔◌, false, Option, List, [], length, nat_eq, Some, option_map, slice_get}
 use Rattle.std.specs.List.{Contains, IsDistinct}
 use Rattle.pg_game.specs.declared.player.Player.{Player}
 use Rattle.pg_game.specs.declared.player.Player.TheVariants.{Even, Odd}
@@ -70,8 +70,9 @@ IsOfPost (refusal.Lost v) = Unit {0}
 IsOfPost (refusal.Open v w) = Unit {0}
 IsOfPost other = ⊥
 
--- the known set is no region, and this is a board's reason to refuse its rows
+-- the known set has a vertex and is no region, and this is a board's reason to refuse its rows
 pub record IsRefusedKnown (g : Graph) (journal : Journal) (known : KnownRows) (p : Player) (e : Refusal) : Type 0 where
+  pub nonempty : 0 < length (known_rows g known p)
   pub no_region : IsKnownRegion g known p → ⊥
   pub refused : Refuses g (state_of journal) p (known_rows g known p) e
   pub of_post : IsOfPost e

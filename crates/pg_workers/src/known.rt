@@ -52,33 +52,35 @@ pub enum KnownFault {
 }
 
 /// The fault of the player's known set, whose post was refused for this reason.
-pub fn known_fault(of: &KnownOf<'_>, player: Player, refusal: Refusal) -> KnownFault
-    requires { IsSolveFault of.now.game.now of.now.known.now.rows (SolveFault.Known player refusal) }
-    ensures { Names of.now.game.now (known_rows of.now.game.now of.now.known.now.rows player) refusal result }
+pub fn known_fault(game: &Game, known: &Known, player: Player, refusal: Refusal) -> KnownFault
+    requires { IsSolveFault game.now known.now.rows (SolveFault.Known player refusal) }
+    ensures { Names game.now (known_rows game.now known.now.rows player) refusal result }
 {
     // for the proof: the graph is a game, so edges end at vertices
-    let _n = of.game.len();
+    let _n = game.len();
     match refusal {
-        Refusal::Claim(ClaimFault::Shape(row)) => KnownFault::Choice(id_in_row(of, player, row)),
-        Refusal::Claim(ClaimFault::Cycle(v)) => KnownFault::Cycle(of.game.id(v)),
-        Refusal::Lost(v) => KnownFault::Lost(of.game.id(v)),
-        Refusal::Open(v, w) => KnownFault::Open(of.game.id(v), of.game.id(w)),
+        Refusal::Claim(ClaimFault::Shape(row)) => {
+            KnownFault::Choice(id_in_row(game, known, player, row))
+        }
+        Refusal::Claim(ClaimFault::Cycle(v)) => KnownFault::Cycle(game.id(v)),
+        Refusal::Lost(v) => KnownFault::Lost(game.id(v)),
+        Refusal::Open(v, w) => KnownFault::Open(game.id(v), game.id(w)),
         Refusal::Claim(ClaimFault::Memory) => unreachable!(),
         Refusal::Foreign(_) | Refusal::Stale | Refusal::Memory => unreachable!(),
     }
 }
 
 /// The identifier in a row of the player's known set: that of his known vertex with this many before it.
-fn id_in_row(of: &KnownOf<'_>, player: Player, row: u32) -> u32
-    requires { row < length (known_rows of.now.game.now of.now.known.now.rows player) }
-    ensures { option_map (λ r. id_of of.now.game.now r.0) (slice_get (known_rows of.now.game.now of.now.known.now.rows player) row) ≡ Some result }
+fn id_in_row(game: &Game, known: &Known, player: Player, row: u32) -> u32
+    requires { row < length (known_rows game.now known.now.rows player) }
+    ensures { option_map (λ r. id_of game.now r.0) (slice_get (known_rows game.now known.now.rows player) row) ≡ Some result }
 {
     let mut before = 0u32;
-    for v in 0..of.game.len() {
-        if let Some((winner, _)) = known_at(of.known, v) {
+    for v in 0..game.len() {
+        if let Some((winner, _)) = known_at(known, v) {
             if winner == player {
                 if before == row {
-                    return of.game.id(v);
+                    return game.id(v);
                 }
                 before += 1;
             }

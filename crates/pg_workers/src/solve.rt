@@ -52,8 +52,6 @@ pub fn solve_game<R: Threads + Wait + Sync>(
     finder: &impl Finder,
 ) -> Result<Outcome, SolveFault>
     requires known { length known.now.rows ≤ length game.now }
-    requires workers { (1 ≤ options.now.workers) × (options.now.workers ≤ 64) }
-    requires bound { options.now.bound ≤ 8 }
     ensures outcome { IfOk result (λ o. IsOutcome game.now known.now.rows (total_of options.now.bound (length game.now)) options.now.workers o) }
     ensures fault { IfErr result (λ e. IsSolveFault game.now known.now.rows e) }
 {

@@ -65,7 +65,6 @@ pub(crate) struct Setup<'x, G, F, R> {
     pub start: &'x KnownOf<'x>,
     pub gate: &'x G,
     pub finder: &'x F,
-    ghost workers: { (1 ≤ options.now.workers) × (options.now.workers ≤ 64) },
 }
 
 /// What all workers of a run share.

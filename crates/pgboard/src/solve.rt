@@ -4,7 +4,7 @@
 ghost use Rattle.std.specs.Prelude.{◌≡◌, ◌≤◌, ◌⊎◌, length, None, IfOk, IfErr, slice_get};
 ghost use Rattle.pg_game.specs.Graph.{Graph, IsGame};
 ghost use Rattle.pg_board.specs.Work.{total_of};
-ghost use Rattle.pg_workers.specs.KnownRegions.{IsSolveFault, KeepsKnown};
+ghost use Rattle.pg_workers.specs.KnownRegions.{KeepsKnown};
 ghost use Rattle.pg_workers.specs.Outcomes.{IsOutcome};
 ghost use Rattle.pgboard.specs.Device.{HasFailed};
 ghost use Rattle.pgboard.specs.KnownSource.{left_in, IfGiven, OnGiven};
@@ -12,6 +12,7 @@ ghost use Rattle.pgboard.specs.Refused.{IsNotKnown};
 ghost use Rattle.pgboard.specs.private.Run.{IsNotSolved};
 ghost use Rattle.pgboard.specs.Run.{IsReadGame, IsNoGame, Reads, ReadsInTurn, Writes};
 ghost use Rattle.pgboard.specs.Solving.{IsSolveText, IsSolveOutput, IsTraceText};
+ghost use Rattle.pg_text.specs.Known.{KnownRows};
 ghost use Rattle.pg_text.specs.Solution.{IsExactSolution};
 
 use crate::device::{Sink, Source, write_all};
@@ -19,9 +20,9 @@ use crate::fault::RunFault;
 use crate::reading::{game_from, known_from, nothing_known};
 use crate::trace::write_trace;
 use pg_finders::Finder;
-use pg_game::Memory;
-use pg_text::{Solution, write_solution, write_winners};
-use pg_workers::{BUDGET, Gate, KnownOf, Options, Outcome, SolveFault, known_fault, solve_game};
+use pg_game::{Game, Memory};
+use pg_text::{Known, Solution, write_solution, write_winners};
+use pg_workers::{BUDGET, Gate, Options, Outcome, SolveFault, known_fault, solve_game};
 use std::alloc::Global;
 use std::sync::Wait;
 use std::thread::Threads;
@@ -33,6 +34,7 @@ pub struct SolveOptions {
     pub workers: u32,
     pub bound: u32,
     pub winners: bool,
+    ghost in_range: { (1 ≤ workers) × (workers ≤ 64) × (bound ≤ 8) },
 }
 
 /// Reads a game, and what is known of it if there is a source for that, solves the game, and writes its solution. With
@@ -52,8 +54,6 @@ pub fn run_solve<I: Source, K: Source, O: Sink, R: Threads + Wait + Sync>(
     gate: &impl Gate,
     finder: &impl Finder,
 ) -> Result<(), RunFault>
-    requires workers { (1 ≤ options.now.workers) × (options.now.workers ≤ 64) }
-    requires bound { options.now.bound ≤ 8 }
     ensures reads { ReadsInTurn result (I.left input.old) (I.read_failures input.old) (I.read_failures input.new)
         (IfGiven (λ old new. new ≡ old) known.entry known.exit)
         (IfGiven (λ old new. K.read_failures new ≡ K.read_failures old) known.entry known.exit)
@@ -70,13 +70,9 @@ pub fn run_solve<I: Source, K: Source, O: Sink, R: Threads + Wait + Sync>(
         Some(source) => known_from(alloc, &game, source)?,
         None => nothing_known(alloc),
     };
-    let start = KnownOf {
-        game: &game,
-        known: &known,
-    };
     // the journal takes as much memory as the solution, and is freed before the text is made
-    let solution = outcome(rt, alloc, &start, &of_run, gate, finder)?.solution;
-    let text = text_of(alloc, &start, &solution, options.winners)?;
+    let solution = outcome(rt, alloc, &game, &of_run, &known, gate, finder)?.solution;
+    let text = text_of(alloc, &game, &solution, options.winners)?;
     write_all(text.as_slice(), out)
 }
 
@@ -99,12 +95,8 @@ pub fn run_trace<I: Source, O: Sink, R: Threads + Wait + Sync>(
 {
     let game = game_from(alloc, input)?;
     let known = nothing_known(alloc);
-    let start = KnownOf {
-        game: &game,
-        known: &known,
-    };
     let of_run = options_of(workers, TRACE_BOUND);
-    let outcome = outcome(rt, alloc, &start, &of_run, gate, finder)?;
+    let outcome = outcome(rt, alloc, &game, &of_run, &known, gate, finder)?;
     let entries = outcome.entries.as_slice();
     let report = outcome.report.as_slice();
     let text = write_trace(alloc, &game, entries, report)?;
@@ -116,6 +108,7 @@ const TRACE_BOUND: u32 = 4;
 
 /// The options of a run with so many workers and this bound.
 fn options_of(workers: u32, bound: u32) -> Options
+    requires { (1 ≤ workers) × (workers ≤ 64) × (bound ≤ 8) }
     ensures workers { result.workers ≡ workers }
     ensures bound { result.bound ≡ bound }
 {
@@ -126,52 +119,43 @@ fn options_of(workers: u32, bound: u32) -> Options
     }
 }
 
-/// The outcome of solving a game from what is known of it.
+/// The outcome of solving a game from what is known of it. A refused set is named by identifiers.
 fn outcome<R: Threads + Wait + Sync>(
     rt: &R,
     alloc: Global,
-    of: &KnownOf<'_>,
+    game: &Game,
     options: &Options,
+    known: &Known,
     gate: &impl Gate,
     finder: &impl Finder,
 ) -> Result<Outcome, RunFault>
-    requires workers { (1 ≤ options.now.workers) × (options.now.workers ≤ 64) }
-    requires bound { options.now.bound ≤ 8 }
-    ensures outcome { IfOk result (λ o. IsOutcome of.now.game.now of.now.known.now.rows
-        (total_of options.now.bound (length of.now.game.now)) options.now.workers o) }
-    ensures fault { IfErr result (λ e. IsNotSolved of.now.game.now of.now.known.now.rows e) }
+    requires { length known.now.rows ≤ length game.now }
+    ensures outcome { IfOk result (λ o. IsOutcome game.now known.now.rows (total_of options.now.bound (length game.now)) options.now.workers o) }
+    ensures fault { IfErr result (λ e. IsNotSolved game.now known.now.rows e) }
 {
-    match solve_game(rt, alloc, of.game, options, of.known, gate, finder) {
+    match solve_game(rt, alloc, game, options, known, gate, finder) {
         Ok(outcome) => Ok(outcome),
-        Err(fault) => Err(unsolved(of, fault)),
-    }
-}
-
-/// Why the game is not solved.
-fn unsolved(of: &KnownOf<'_>, fault: SolveFault) -> RunFault
-    requires { IsSolveFault of.now.game.now of.now.known.now.rows fault }
-    ensures { IsNotSolved of.now.game.now of.now.known.now.rows result }
-{
-    match fault {
-        SolveFault::Known(player, refusal) => RunFault::Known(known_fault(of, player, refusal)),
-        SolveFault::Memory => RunFault::Memory,
+        Err(SolveFault::Known(player, refusal)) => {
+            Err(RunFault::Known(known_fault(game, known, player, refusal)))
+        }
+        Err(SolveFault::Memory) => Err(RunFault::Memory),
     }
 }
 
 /// The text of a game's solution, or of its winners alone.
 fn text_of(
     alloc: Global,
-    of: &KnownOf<'_>,
+    game: &Game,
     solution: &Solution,
     winners: bool,
 ) -> Result<Vec<u8>, Memory>
-    requires game { IsGame of.now.game.now }
-    requires exact { IsExactSolution of.now.game.now solution.now.rows }
-    requires kept { KeepsKnown of.now.game.now of.now.known.now.rows (λ v. slice_get solution.now.rows v) }
-    ensures { IfOk result (λ text. IsSolveText winners of.now.game.now of.now.known.now.rows text.items) }
+    requires game { IsGame game.now }
+    requires exact { IsExactSolution game.now solution.now.rows }
+    ensures { (known : KnownRows) → KeepsKnown game.now known (λ v. slice_get solution.now.rows v)
+        → IfOk result (λ text. IsSolveText winners game.now known text.items) }
 {
     if winners {
-        return write_winners(alloc, of.game, solution);
+        return write_winners(alloc, game, solution);
     }
-    write_solution(alloc, of.game, solution)
+    write_solution(alloc, game, solution)
 }

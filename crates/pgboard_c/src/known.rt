@@ -54,7 +54,7 @@ pub fn known_solution(
         Ok(Some(solution)) => Ok(solution),
         Ok(None) => Err(Fault::GaveUp),
         Err(SolveFault::Known(player, refusal)) => {
-            Err(Fault::Known(known_fault(of, player, refusal)))
+            Err(Fault::Known(known_fault(of.game, of.known, player, refusal)))
         }
         Err(SolveFault::Memory) => Err(Fault::Memory),
     }

@@ -2,14 +2,14 @@
 //! `pgboard::run_asked`, and ends with the status of the outcome. A fault goes to standard error.
 #![tactic(auto)]
 
-ghost use Rattle.std.specs.Prelude.{ℕ, List, ◌≡◌, ◌⊎◌, None, Ok, IfOk, IfErr, codes, is_some, true};
+ghost use Rattle.std.specs.Prelude.{ℕ, List, ◌≡◌, ◌⊎◌, None, IfOk, IfErr, codes, is_some, true};
 ghost use Rattle.std.specs.IoError.{error_kind};
 ghost use Rattle.pgboard.specs.Answer.{IsOutputFor, FailsFor, ReadsFor};
 ghost use Rattle.pgboard.specs.Asking.{IsInRange, Says};
-ghost use Rattle.pgboard.specs.Device.{HasFailed, untouched};
+ghost use Rattle.pgboard.specs.Device.{HasFailed};
 ghost use Rattle.pgboard.specs.declared.fault.RunFault.{RunFault};
 ghost use Rattle.pgboard.specs.Status.{status_of, asked_status_of};
-ghost use Rattle.pgboard_program.specs.Input.{IsFile};
+ghost use Rattle.pgboard_program.specs.Input.{IsInputOf};
 
 use pg_finders::Standard;
 use pg_workers::Pass;
@@ -81,19 +81,19 @@ fn run_on_files<T: Threads + Wait + Sync>(
     ensures status { IfOk result (λ status. (text : List ℕ) × IsOutputFor asked.now None None status text) }
     ensures fault { IfErr result (λ fault. (fault ≡ RunFault.Read) ⊎ FailsFor asked.now None None fault) }
 {
-    let mut input = open(rt, asked.path(), Input::Standard(rt.stdin()))?;
-    let mut second = open(rt, asked.second_path(), Input::Nothing)?;
+    let mut input = open(rt, asked.path())?;
+    // standard input where no second file was given, and then it is not read
+    let mut second = open(rt, asked.second_path())?;
     run_to_output(rt, threads, asked, &mut input, &mut second)
 }
 
-/// The file of this path, or where none was given the other input.
-fn open(rt: &HostRuntime, path: Option<&str>, other: Input) -> Result<Std<Input>, RunFault>
-    ensures other { path.entry ≡ None → result ≡ Ok (untouched other) }
-    ensures file { is_some path.entry ≡ true → IfOk result (λ source. IsFile source.inner × (source.failures ≡ 0)) }
-    ensures fault { IfErr result (λ fault. fault ≡ RunFault.Read) }
+/// The file of this path, or standard input where none was given.
+fn open(rt: &HostRuntime, path: Option<&str>) -> Result<Std<Input>, RunFault>
+    ensures input { IfOk result (λ source. IsInputOf path.entry source.inner × (source.failures ≡ 0)) }
+    ensures fault { IfErr result (λ fault. (is_some path.entry ≡ true) × (fault ≡ RunFault.Read)) }
 {
     let Some(path) = path else {
-        return Ok(Std::new(other));
+        return Ok(Std::new(Input::Standard(rt.stdin())));
     };
     match File::open(rt, path) {
         Ok(file) => {
@@ -153,13 +153,11 @@ fn print_refusal(rt: &HostRuntime, refusal: &AskedFault) -> u8
     refusal.status()
 }
 
-/// What the program reads: a file, standard input, or nothing where no second file was given. One type, so that a run has one
-/// kind of source.
+/// What the program reads. One type, so that a run has one kind of source.
 #[derive(Drop)]
 enum Input {
     File(File),
     Standard(Stdin),
-    Nothing,
 }
 
 impl Read for Input {
@@ -167,7 +165,6 @@ impl Read for Input {
         match self {
             Input::File(file) => file.read(buffer),
             Input::Standard(stdin) => stdin.read(buffer),
-            Input::Nothing => Ok(0),
         }
     }
 }

@@ -12,7 +12,7 @@ use Rattle.pg_dominion.specs.KeptEdges.{Edge, IsOnBadCycle}
 abbrev pub IsBounded : ℕ → Type 0
 IsBounded most = most < 2 ^ 64 - 1
 
--- the least bad vertex that is the greatest on a closed walk; or there is none; or none before a vertex where the patience ends
+-- the least vertex on a bad cycle; or there is none; or none before a vertex where the patience ends
 abbrev pub IsSearched : StrategyGraph → ℕ → SearchProgress → Type 0
 IsSearched k patience (searched.All least) = MatchOption least (NoneHas (IsOnBadCycle k)) (IsLeast (IsOnBadCycle k))
 IsSearched k patience (searched.Before v) = IsBounded patience × ((u : ℕ) → u < v → IsOnBadCycle k u → ⊥)

@@ -2,12 +2,11 @@
 use Rattle.pg_finders.proofs.Common.{◌≡◌, ◌≢◌, ℕ, suc, ◌<◌, true, false, ◌&&◌, not, ◌⊎◌, inl, inr, List, [], ◌∷◌, ◌++◌, length, take, refl, sym, ◌∙◌, ap, subst}
 use Rattle.pg_finders.proofs.Common.{arith, append_assoc, rules, Some, ◌==◌, and-true, eq-eqb, or_cases, cases_Bool, or_left, or_right, or_parts}
 use Rattle.pg_finders.proofs.Common.{false_from_ne_true, append-nil, take-append-le, take_all, Player, opponent, Graph, HasEdge, owner_of, VertexSet, In, union}
-use Rattle.pg_finders.proofs.Common.{without, other_from_not, IsAttractedRow, Plan, listed, Once, winners_of, choices_of, SameAt, IsAttracted, place, Before}
-use Rattle.pg_finders.proofs.Common.{HasTaken, AttractsNoActive, both_ways}
+use Rattle.pg_finders.proofs.Common.{without, IsAttractedRow, Plan, listed, Once, winners_of, choices_of, SameAt, IsAttracted, place, Before}
+use Rattle.pg_finders.proofs.Common.{HasTaken, AttractsNoFurther, both_ways}
 use Rattle.std.proofs.Math.Bool.{or-false}
 use Rattle.std.proofs.lemmas.Bool.{and_left, and_right, not_from_true}
 use Rattle.pg_game.proofs.Players.{not_own}
-use Rattle.pg_dominion.specs.AttractorState.{AttractsNoFurther}
 use Rattle.pg_finders.proofs.Sets.{only, minus, minus_both, no_both}
 use Rattle.pg_finders.proofs.recursion.ListsAsSets.{listed-append, once_join, apart_from, in_prefix, in_rest, prefix_or_rest, one_listed}
 
@@ -102,18 +101,18 @@ module _ {g : Graph} {p : Player} {A A' : VertexSet} {old new : Plan} {prefix li
   prefix_taken = search (rules, h.list_is, take-append-le, h.more, take_all)
 
   -- all is done, so the list is what the player attracts to its prefix
-  pub grown_attracted : AttractsNoActive g p (union A (listed prefix)) (listed list) A'
+  pub grown_attracted : AttractsNoFurther g p (union A (listed prefix)) (listed list) (listed list)
       → IsAttracted g p (union A (listed prefix)) (listed prefix) (listed list) (choices_of new) (place list)
   grown_attracted d = record {
     inside = grown_inside;
     target = grown_prefix;
     own = λ v w u o e i. elim (cases_Bool (listed list v)) [
       | inl y ↦ y
-      | inr n ↦ absurd (no_both i (d.own v w (grown_left v u n) o e))
+      | inr n ↦ absurd (no_both i (d.own v w u n o e))
     ];
     forced = λ v u o f. elim (cases_Bool (listed list v)) [
       | inl y ↦ y
-      | inr n ↦ (let q = d.other v (grown_left v u n) o in absurd (no_both (f q.0 q.1 q.2) q.3))
+      | inr n ↦ (let q = d.other v u n (not_own p (owner_of g v) o) in absurd (no_both (f q.0 q.1 q.2) q.3))
     ];
     leads = λ v i n o. (let q = h.leads v (in_more v i n) o in (q.0, q.1, q.2, q.3.0, q.3.1));
     pushed = λ v w i n o e u. h.pushed v w (in_more v i n) o e u;
@@ -163,21 +162,3 @@ once_push xs v o n = once_join xs (v ∷ []) o (refl, tt) (apart_from xs (v ∷ 
 pub apart_push : (xs : List ℕ) (v : ℕ) (A A' : VertexSet) → ((w : ℕ) → In (listed xs) w → A w ≡ false) → ((w : ℕ) → A' w ≡ without A (λ u. v == u) w)
     → (w : ℕ) → In (listed (xs ++ v ∷ [])) w → A' w ≡ false
 apart_push xs v A A' apart now w i = search (rules, prefix_or_rest, and_left, and_right, not_from_true, eq-eqb, one_listed)
-
-pub no_further : {g : Graph} {p : Player} {D A S : VertexSet} → AttractsNoActive g p (union A S) D A → AttractsNoFurther g p (union A S) D S
-no_further {g = g} {p = p} {A = A} {S = S} d = search (rules, d.own, d.other, other_from_not, or_cases, no_both)
-
--- where what is listed is active no more, no further vertex is one that is active
-pub none_active : {g : Graph} {p : Player} {A A' : VertexSet} {old new : Plan} {prefix list : List ℕ} → HasTaken g p A old prefix A' new list
-    → ((v : ℕ) → In (listed list) v → A' v ≡ false) → AttractsNoFurther g p (union A (listed prefix)) (listed list) (listed list)
-    → AttractsNoActive g p (union A (listed prefix)) (listed list) A'
-none_active {p = p} {A = A} {A' = A'} {prefix = prefix} {list = list} h apart d = record {
-  own = λ v w i o e. d.own v w (here v i) (out v i) o e;
-  other = λ v i o. d.other v (here v i) (out v i) (not_own p _ o);
-}
-  where
-    here : (v : ℕ) → In A' v → In (union A (listed prefix)) v
-    here v i = or_left (A v) (listed prefix v) (grown_active h v i)
-
-    out : (v : ℕ) → In A' v → listed list v ≡ false
-    out v i = false_from_ne_true (listed list v) (λ j. no_both i (apart v j))

@@ -17,18 +17,18 @@ use Rattle.pg_finders.proofs.recursion.SharedLists.{cut}
 
 -- each list gets what was set aside, and nothing else but the number of those that wait has changed
 pub record SettlesAside (g : Graph) (x z : Solver) (f : Frame) : Type 0 where
-  pub subgame : z.parts.subgame ≡ x.parts.subgame
+  pub subgame : z.partition.subgame ≡ x.partition.subgame
   pub order : z.order ≡ x.order
   pub size : z.size ≡ x.size
   pub frames : x.frames.items ≡ z.frames.items ++ f ∷ []
-  pub set_aside : z.set_aside.items ≡ take f.set_aside x.set_aside.items
-  pub own : settled_of z.parts.settled f.player ≡ settled_of x.parts.settled f.player ++ drop f.set_aside x.set_aside.items
-  pub other : settled_of z.parts.settled (opponent f.player) ≡ settled_of x.parts.settled (opponent f.player)
-  pub placed : IsPlaced (length g) z.parts.settled
+  pub set_aside : z.set_aside.items ≡ take f.set_aside_from x.set_aside.items
+  pub own : settled_of z.partition.settled f.player ≡ settled_of x.partition.settled f.player ++ drop f.set_aside_from x.set_aside.items
+  pub other : settled_of z.partition.settled (opponent f.player) ≡ settled_of x.partition.settled (opponent f.player)
+  pub placed : IsPlaced (length g) z.partition.settled
 
 -- The player won all that was left.
 module _ {g : Graph} {inside : List Bool} {x z : Solver} {f : Frame} (h : IsAtEnd g inside x f)
-    (all : length (settled_of x.parts.settled (opponent f.player)) ≡ count_at f (opponent f.player)) (c : SettlesAside g x z f) where
+    (all : length (settled_of x.partition.settled (opponent f.player)) ≡ count_at f (opponent f.player)) (c : SettlesAside g x z f) where
   abbrev frames : List Frame
   frames = z.frames.items
 
@@ -36,16 +36,16 @@ module _ {g : Graph} {inside : List Bool} {x z : Solver} {f : Frame} (h : IsAtEn
   U = members inside
 
   abbrev X : VertexSet
-  X = active_of x.parts.subgame
+  X = active_of x.partition.subgame
 
   abbrev settled : SettledLists
-  settled = settled_of x.parts.settled
+  settled = settled_of x.partition.settled
 
   abbrev set_aside : List ℕ
   set_aside = x.set_aside.items
 
   abbrev old : Plan
-  old = x.parts.subgame.plan
+  old = x.partition.subgame.plan
 
   abbrev p : Player
   p = f.player
@@ -63,7 +63,7 @@ module _ {g : Graph} {inside : List Bool} {x z : Solver} {f : Frame} (h : IsAtEn
   since r = drop (count_at f r) (settled r)
 
   abbrev B : List ℕ
-  B = drop f.set_aside set_aside
+  B = drop f.set_aside_from set_aside
 
   run : AreOpenLevels g U X settled set_aside (frames ++ f ∷ []) (winners_of old) (choices_of old)
   run = rw (← c.frames) h.running.open_levels
@@ -88,7 +88,7 @@ module _ {g : Graph} {inside : List Bool} {x z : Solver} {f : Frame} (h : IsAtEn
 
   -- what is set aside is not settled
   not_aside : (r : Player) (v : ℕ) → In (listed (since r)) v → In (listed B) v → ⊥
-  not_aside r v i j = no_both (in_drop f.set_aside set_aside v j) (run.apart.aside_apart r v (in_drop (count_at f r) (settled r) v i))
+  not_aside r v i j = no_both (in_drop f.set_aside_from set_aside v j) (run.apart.aside_apart r v (in_drop (count_at f r) (settled r) v i))
 
   aside_his : (v : ℕ) → In (listed B) v → winners_of old v ≡ p
   aside_his v i = begun.his v (minus (aside_of v i) (false_from_ne_true (L v) (λ y. (let k = (left_cases frames f run h.none) v y in not_aside k.0 v k.1 i))))
@@ -118,13 +118,13 @@ module _ {g : Graph} {inside : List Bool} {x z : Solver} {f : Frame} (h : IsAtEn
   mine : (v : ℕ) → In (listed (since p ++ B)) v → winners_of old v ≡ p
   mine = own_cases (λ v. winners_of old v ≡ p) (his p) aside_his
 
-  settles : Finishes g p I X (prefix f settled) (settled_of z.parts.settled) (since p ++ B) (since q) (winners_of old) (winners_of old) (choices_of old) (choices_of old)
+  settles : Finishes g p I X (prefix f settled) (settled_of z.partition.settled) (since p ++ B) (since q) (winners_of old) (winners_of old) (choices_of old) (choices_of old)
   settles = record {
     own_is = c.own ∙ (ap (λ ys. ys ++ B) (cut f settled p) ∙ append_assoc (prefix f settled p) (since p) B);
     other_is = c.other ∙ cut f settled q;
     own_within = own_cases (In I) (inside_of p) aside_of;
     other_within = inside_of q;
-    own_once = once_join (since p) B (once_since p) (once_drop f.set_aside set_aside run.apart.aside_once) (apart_from (since p) B (not_aside p));
+    own_once = once_join (since p) B (once_since p) (once_drop f.set_aside_from set_aside run.apart.aside_once) (apart_from (since p) B (not_aside p));
     other_once = once_since q;
     apart = apart_from (since p ++ B) (since q) (λ v i j. none_lost v j);
     left = λ v. h.none v ∙ sym (false_from_ne_true (I v && not (listed (since p ++ B) v || listed (since q) v)) (λ y.
@@ -137,7 +137,7 @@ module _ {g : Graph} {inside : List Bool} {x z : Solver} {f : Frame} (h : IsAtEn
         (all_won begun solved (λ v l. mine v (taken_all v (begun.within v l))));
   }
 
-  now : AreOpenLevels g U X (settled_of z.parts.settled) (take f.set_aside set_aside) frames (winners_of old) (choices_of old)
+  now : AreOpenLevels g U X (settled_of z.partition.settled) (take f.set_aside_from set_aside) frames (winners_of old) (choices_of old)
   now = open_levels_finish frames f run settles
 
   pub finished : IsSolverState g inside z
@@ -156,5 +156,5 @@ module _ {g : Graph} {inside : List Bool} {x z : Solver} {f : Frame} (h : IsAtEn
   finished_fewer =
       let some : 0 < length (since p ++ B) = some_length (since p ++ B) some_aside.0 (in_rest (since p) B some_aside.0 some_aside.1) in
       rw (c.frames, c.set_aside) (work_finish (priority_count g U) (how_many inside) (how_many_gone settled set_aside)
-      (how_many_gone (settled_of z.parts.settled) (take f.set_aside set_aside)) frames f (finish_more frames f run settles (omega (arith, some)))
+      (how_many_gone (settled_of z.partition.settled) (take f.set_aside_from set_aside)) frames f (finish_more frames f run settles (omega (arith, some)))
       (lists_fit inside now.apart now.listed_inside))

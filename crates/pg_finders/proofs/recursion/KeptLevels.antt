@@ -105,12 +105,12 @@ module _ {g : Graph} {U A A' : VertexSet} {settled settled' : SettledLists} {set
         (waits_on g U (map (level_at U settled set_aside) frames) A A' won won' s s' h.waits t.same t.solved);
   }
 
--- the steps fall where a subgame is resumed: m vertices are gone before, i once it is finished, j once it is begun again, and k in the end
-pub work_resume : (d n m i j k : ℕ) (frames : List Frame) (f f' : Frame) → length frames < d → f.even + f.odd + f.set_aside < i
-    → f'.even + f'.odd + f'.set_aside ≡ i → i < j → j ≤ k → k ≤ n
+-- the steps fall where the recursion goes back: m vertices are gone before, i once it is finished, j once it is begun again, and k in the end
+pub work_go_back : (d n m i j k : ℕ) (frames : List Frame) (f f' : Frame) → length frames < d → f.even + f.odd + f.set_aside_from < i
+    → f'.even + f'.odd + f'.set_aside_from ≡ i → i < j → j ≤ k → k ≤ n
     → steps (d - length (frames ++ f' ∷ [])) (n - k) + steps_left d n (frames ++ f' ∷ [])
     < steps (d - length (frames ++ f ∷ [])) (n - m) + steps_left d n (frames ++ f ∷ [])
-work_resume d n m i j k frames f f' some a b c e h =
+work_go_back d n m i j k frames f f' some a b c e h =
     let x = work_finish d n m i frames f a (omega (arith, c, e, h)) in
     let y = work_begin d n i j frames f' some b c (omega (arith, e, h)) in
     let deep = d - length (frames ++ f' ∷ []) in
@@ -118,6 +118,6 @@ work_resume d n m i j k frames f f' some a b c e h =
     omega (arith, x, y, z)
 
 -- and where no top is left
-pub work_drop : (d n m i k : ℕ) (frames : List Frame) (f : Frame) → f.even + f.odd + f.set_aside < i → i ≤ k → k ≤ n
+pub work_drop : (d n m i k : ℕ) (frames : List Frame) (f : Frame) → f.even + f.odd + f.set_aside_from < i → i ≤ k → k ≤ n
     → steps (d - length frames) (n - k) + steps_left d n frames < steps (d - length (frames ++ f ∷ [])) (n - m) + steps_left d n (frames ++ f ∷ [])
 work_drop d n m i k frames f a c e = work_finish d n m k frames f (omega (arith, a, c)) e

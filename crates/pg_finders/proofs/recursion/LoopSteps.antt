@@ -73,12 +73,12 @@ pub record Begins (g : Graph) (U active active' : VertexSet) (settled : SettledL
   pub within : (v : ℕ) → In (listed added) v → In active v
   pub once : Once added
   pub left : (v : ℕ) → active' v ≡ (active v && not (listed added v))
-  pub begun : IsBegun g active (listed (take (f.tops - f.set_aside) added)) active' f.player won' s'
+  pub begun : IsBegun g active (listed (take (f.tops_upto - f.set_aside_from) added)) active' f.player won' s'
   pub same : Agree active won won' s s'
   pub counts : (p : Player) → count_at f p ≡ length (settled p)
-  pub from : f.set_aside ≡ length set_aside
-  pub tops : (f.set_aside ≤ f.tops) × (f.tops ≤ f.upto)
-  pub upto : f.upto ≡ length (set_aside ++ added)
+  pub from : f.set_aside_from ≡ length set_aside
+  pub tops : (f.set_aside_from ≤ f.tops_upto) × (f.tops_upto ≤ f.set_aside_upto)
+  pub upto : f.set_aside_upto ≡ length (set_aside ++ added)
 
 module _ {g : Graph} {U active active' : VertexSet} {settled : SettledLists} {set_aside added : List ℕ} {frames : List Frame} {f : Frame} {won won' : Winners}
     {s s' : Choices} (b : Begins g U active active' settled set_aside added frames f won won' s s') where
@@ -96,32 +96,32 @@ module _ {g : Graph} {U active active' : VertexSet} {settled : SettledLists} {se
   prefix_now = fun_ext (λ p. take_all (count_at f p) (settled p) (let a = b.counts p in omega (arith, a)))
 
   -- the tops are the first of those that are added
-  tops_now : drop f.set_aside (take f.tops (set_aside ++ added)) ≡ take (f.tops - f.set_aside) added
+  tops_now : drop f.set_aside_from (take f.tops_upto (set_aside ++ added)) ≡ take (f.tops_upto - f.set_aside_from) added
   tops_now =
-      let e : length set_aside + (f.tops - f.set_aside) ≡ f.tops = omega (arith, b.from, b.tops.0) in
-      ap (drop f.set_aside) (ap (λ n. take n (set_aside ++ added)) (sym e) ∙ take-append-add set_aside added (f.tops - f.set_aside))
-      ∙ (ap (λ n. drop n (set_aside ++ take (f.tops - f.set_aside) added)) b.from
-      ∙ drop-append_seam set_aside (take (f.tops - f.set_aside) added))
+      let e : length set_aside + (f.tops_upto - f.set_aside_from) ≡ f.tops_upto = omega (arith, b.from, b.tops.0) in
+      ap (drop f.set_aside_from) (ap (λ n. take n (set_aside ++ added)) (sym e) ∙ take-append-add set_aside added (f.tops_upto - f.set_aside_from))
+      ∙ (ap (λ n. drop n (set_aside ++ take (f.tops_upto - f.set_aside_from) added)) b.from
+      ∙ drop-append_seam set_aside (take (f.tops_upto - f.set_aside_from) added))
 
   abbrev Tops : VertexSet
-  Tops = listed (take (f.tops - f.set_aside) added)
+  Tops = listed (take (f.tops_upto - f.set_aside_from) added)
 
   level_now : level_at U settled (set_aside ++ added) f ≡ record { inside = active; tops = Tops; left = active'; player = f.player }
   level_now =
-      let begins : take f.set_aside (set_aside ++ added) ≡ set_aside =
-      take-append-le f.set_aside set_aside added (omega (arith, b.from)) ∙ take_all f.set_aside set_aside (omega (arith, b.from)) in
-      let whole : take f.upto (set_aside ++ added) ≡ set_aside ++ added = take_all f.upto (set_aside ++ added) (omega (arith, b.upto)) in
-      let in_all : part U (prefix f settled) (take f.set_aside (set_aside ++ added)) ≡ active =
-      ap (λ t. part U t (take f.set_aside (set_aside ++ added))) prefix_now ∙ (ap (part U settled) begins ∙ fun_ext (λ v. sym (b.open_levels.active_is v))) in
-      let in_left : part U (prefix f settled) (take f.upto (set_aside ++ added)) ≡ active' =
-      ap (λ t. part U t (take f.upto (set_aside ++ added))) prefix_now ∙ (ap (part U settled) whole ∙ fun_ext (λ v. sym (active_now v))) in
+      let begins : take f.set_aside_from (set_aside ++ added) ≡ set_aside =
+      take-append-le f.set_aside_from set_aside added (omega (arith, b.from)) ∙ take_all f.set_aside_from set_aside (omega (arith, b.from)) in
+      let whole : take f.set_aside_upto (set_aside ++ added) ≡ set_aside ++ added = take_all f.set_aside_upto (set_aside ++ added) (omega (arith, b.upto)) in
+      let in_all : part U (prefix f settled) (take f.set_aside_from (set_aside ++ added)) ≡ active =
+      ap (λ t. part U t (take f.set_aside_from (set_aside ++ added))) prefix_now ∙ (ap (part U settled) begins ∙ fun_ext (λ v. sym (b.open_levels.active_is v))) in
+      let in_left : part U (prefix f settled) (take f.set_aside_upto (set_aside ++ added)) ≡ active' =
+      ap (λ t. part U t (take f.set_aside_upto (set_aside ++ added))) prefix_now ∙ (ap (part U settled) whole ∙ fun_ext (λ v. sym (active_now v))) in
       ap (λ X. record {
         inside = X;
-        tops = listed (drop f.set_aside (take f.tops (set_aside ++ added)));
-        left = part U (prefix f settled) (take f.upto (set_aside ++ added));
+        tops = listed (drop f.set_aside_from (take f.tops_upto (set_aside ++ added)));
+        left = part U (prefix f settled) (take f.set_aside_upto (set_aside ++ added));
         player = f.player;
       }) in_all
-      ∙ (ap (λ xs. record { inside = active; tops = listed xs; left = part U (prefix f settled) (take f.upto (set_aside ++ added)); player = f.player }) tops_now
+      ∙ (ap (λ xs. record { inside = active; tops = listed xs; left = part U (prefix f settled) (take f.set_aside_upto (set_aside ++ added)); player = f.player }) tops_now
       ∙ ap (λ X. record { inside = active; tops = Tops; left = X; player = f.player }) in_left)
 
   pub stops_now : map (level_at U settled (set_aside ++ added)) frames ≡ map (level_at U settled set_aside) frames
@@ -191,8 +191,8 @@ module _ {g : Graph} {U active : VertexSet} {settled : SettledLists} {set_aside 
   abbrev last : Level
   last = level_at U settled set_aside f
 
-  links : Linked (λ p. 0) (count_at f) 0 frames f.set_aside × ((f.set_aside ≤ f.tops) × (f.tops ≤ f.upto)) × ((p : Player)
-      → count_at f p ≤ length (settled p)) × (f.upto ≡ length set_aside)
+  links : Linked (λ p. 0) (count_at f) 0 frames f.set_aside_from × ((f.set_aside_from ≤ f.tops_upto) × (f.tops_upto ≤ f.set_aside_upto)) × ((p : Player)
+      → count_at f p ≤ length (settled p)) × (f.set_aside_upto ≡ length set_aside)
   links = linked_pop (λ p. 0) (λ p. length (settled p)) 0 frames (length set_aside) f h.linked
 
   pub counts_fit : (p : Player) → count_at f p ≤ length (settled p)
@@ -210,7 +210,7 @@ module _ {g : Graph} {U active : VertexSet} {settled : SettledLists} {set_aside 
   since p = drop (count_at f p) (settled p)
 
   abbrev aside_since : List ℕ
-  aside_since = drop f.set_aside set_aside
+  aside_since = drop f.set_aside_from set_aside
 
   -- what was settled or set aside since the subgame was begun is in no prefix
   settled_new : (p : Player) (v : ℕ) → In (listed (since p)) v → ((q : Player) → listed (prefix f settled q) v ≡ false)
@@ -219,17 +219,17 @@ module _ {g : Graph} {U active : VertexSet} {settled : SettledLists} {set_aside 
   out_of_aside : (v : ℕ) → ((p : Player) × In (listed (settled p)) v) → (k : ℕ) → listed (take k set_aside) v ≡ false
   out_of_aside v (p, i) k = false_from_ne_true (listed (take k set_aside) v) (λ y. no_both (in_take k set_aside v y) (h.apart.aside_apart p v i))
 
-  aside_new : (v : ℕ) → In (listed aside_since) v → ((q : Player) → listed (prefix f settled q) v ≡ false) × (listed (take f.set_aside set_aside) v ≡ false)
-  aside_new v i = search (rules, false_from_ne_true, no_both, in_drop, f.set_aside, h.apart.aside_apart, in_take, take_apart, h.apart.aside_once)
+  aside_new : (v : ℕ) → In (listed aside_since) v → ((q : Player) → listed (prefix f settled q) v ≡ false) × (listed (take f.set_aside_from set_aside) v ≡ false)
+  aside_new v i = search (rules, false_from_ne_true, no_both, in_drop, f.set_aside_from, h.apart.aside_apart, in_take, take_apart, h.apart.aside_once)
 
   pub since_inside : (p : Player) (v : ℕ) → In (listed (since p)) v → In last.inside v
-  since_inside p v i = search (rules, in_drop, in_part, f.set_aside, h.listed_inside, gone_settled, settled_new, out_of_aside)
+  since_inside p v i = search (rules, in_drop, in_part, f.set_aside_from, h.listed_inside, gone_settled, settled_new, out_of_aside)
 
   pub since_left : (p : Player) (v : ℕ) → In (listed (since p)) v → In last.left v
-  since_left p v i = search (rules, in_drop, in_part, f.upto, h.listed_inside, gone_settled, settled_new, out_of_aside)
+  since_left p v i = search (rules, in_drop, in_part, f.set_aside_upto, h.listed_inside, gone_settled, settled_new, out_of_aside)
 
   pub aside_inside : (v : ℕ) → In (listed aside_since) v → In last.inside v
-  aside_inside v i = search (rules, aside_new, in_part, f.set_aside, h.listed_inside, gone_aside, in_drop)
+  aside_inside v i = search (rules, aside_new, in_part, f.set_aside_from, h.listed_inside, gone_aside, in_drop)
 
   -- where nothing is active, the subgame has nothing else, and of these the ones that were settled are left
   module _ (none : (v : ℕ) → active v ≡ false) where
@@ -237,16 +237,16 @@ module _ {g : Graph} {U active : VertexSet} {settled : SettledLists} {set_aside 
     listed_somewhere v u = gone_cases settled set_aside v (unless u (sym (h.active_is v) ∙ none v))
 
     pub inside_cases : (v : ℕ) → In last.inside v → ((p : Player) × In (listed (since p)) v) ⊎ In (listed aside_since) v
-    inside_cases v i = search (rules, listed_somewhere, part_of, f.set_aside, take_or_drop, no_both)
+    inside_cases v i = search (rules, listed_somewhere, part_of, f.set_aside_from, take_or_drop, no_both)
 
     pub left_cases : (v : ℕ) → In last.left v → (p : Player) × In (listed (since p)) v
-    left_cases v i = elim (listed_somewhere v (part_of U (prefix f settled) (take f.upto set_aside) v i).0) [
+    left_cases v i = elim (listed_somewhere v (part_of U (prefix f settled) (take f.set_aside_upto set_aside) v i).0) [
       | inl (p, y) ↦ elim (take_or_drop (count_at f p) (settled p) v y) [
-        | inl x ↦ absurd (no_both x ((part_of U (prefix f settled) (take f.upto set_aside) v i).1 p))
+        | inl x ↦ absurd (no_both x ((part_of U (prefix f settled) (take f.set_aside_upto set_aside) v i).1 p))
         | inr x ↦ (p, x)
       ]
-      | inr y ↦ absurd (no_both (subst (λ xs. In (listed xs) v) (sym (take_all f.upto set_aside (omega (arith, links.3)))) y)
-          (part_of U (prefix f settled) (take f.upto set_aside) v i).2)
+      | inr y ↦ absurd (no_both (subst (λ xs. In (listed xs) v) (sym (take_all f.set_aside_upto set_aside (omega (arith, links.3)))) y)
+          (part_of U (prefix f settled) (take f.set_aside_upto set_aside) v i).2)
     ]
 
     pub left_solved : IsSolvedInside g last.left won s
@@ -272,7 +272,7 @@ module _ {g : Graph} {U active : VertexSet} {settled : SettledLists} {set_aside 
     once = picked (λ p xs. Once xs) f.player own other t.own_once t.other_once
 
     abbrev A : List ℕ
-    A = take f.set_aside set_aside
+    A = take f.set_aside_from set_aside
 
     inside_parts : (v : ℕ) → In last.inside v → In U v × ((p : Player) → listed (prefix f settled p) v ≡ false) × (listed A v ≡ false)
     inside_parts v i = part_of U (prefix f settled) A v i
@@ -295,11 +295,11 @@ module _ {g : Graph} {U active : VertexSet} {settled : SettledLists} {set_aside 
     counts : (p : Player) → length (prefix f settled p) ≡ count_at f p
     counts p = (let a = links.2 p in omega (arith, length-take (count_at f p) (settled p), a))
 
-    length_aside : length A ≡ f.set_aside
-    length_aside = omega (arith, length-take f.set_aside set_aside, links.1.0, links.1.1, links.3)
+    length_aside : length A ≡ f.set_aside_from
+    length_aside = omega (arith, length-take f.set_aside_from set_aside, links.1.0, links.1.1, links.3)
 
     pub stops_kept : map (level_at U settled' A) frames ≡ map (level_at U settled set_aside) frames
-    stops_kept = levels_same U settled set_aside settled' A (λ p. 0) (count_at f) 0 f.set_aside frames links.0
+    stops_kept = levels_same U settled set_aside settled' A (λ p. 0) (count_at f) 0 f.set_aside_from frames links.0
         (λ p k l. ap (take k) (is p) ∙ (take-append-le k (prefix f settled p) (taken p) (let a = counts p in omega (arith, l, a))
         ∙ (grind (arith, common_steps))))
         (λ k l. grind (arith, common_steps))
@@ -309,7 +309,7 @@ module _ {g : Graph} {U active : VertexSet} {settled : SettledLists} {set_aside 
       settled_once =
           λ p. subst Once (sym (is p)) (once_join (prefix f settled p) (taken p) (once_take (count_at f p) (settled p) (h.apart.settled_once p)) (once p)
           (apart_from (prefix f settled p) (taken p) (λ v i j. no_both i ((inside_parts v (within p v j)).1 p))));
-      aside_once = once_take f.set_aside set_aside h.apart.aside_once;
+      aside_once = once_take f.set_aside_from set_aside h.apart.aside_once;
       players = apart_from (settled' Even) (settled' Odd) (λ v i j. elim (parts Even v i) [
         | inl x ↦ elim (parts Odd v j) [
           | inl y ↦ no_both (in_take (count_at f Odd) (settled Odd) v y) (h.apart.players v (in_take (count_at f Even) (settled Even) v x))
@@ -321,18 +321,18 @@ module _ {g : Graph} {U active : VertexSet} {settled : SettledLists} {set_aside 
         ]
       ]);
       aside_apart = λ p. apart_from (settled' p) A (λ v i j. elim (parts p v i) [
-        | inl x ↦ no_both (in_take f.set_aside set_aside v j) (h.apart.aside_apart p v (in_take (count_at f p) (settled p) v x))
+        | inl x ↦ no_both (in_take f.set_aside_from set_aside v j) (h.apart.aside_apart p v (in_take (count_at f p) (settled p) v x))
         | inr x ↦ no_both j (inside_parts v (within p v x)).2
       ]);
     }
 
     pub finish_inside : (v : ℕ) → In (gone settled' A) v → In U v
-    finish_inside v i = search (rules, gone_cases, parts, h.listed_inside, gone_settled, in_take, inside_parts, within, gone_aside, f.set_aside)
+    finish_inside v i = search (rules, gone_cases, parts, h.listed_inside, gone_settled, in_take, inside_parts, within, gone_aside, f.set_aside_from)
 
     pub open_levels_finish : AreOpenLevels g U active' settled' A frames won' s'
     open_levels_finish = record {
       linked = subst (λ n. Linked (λ p. 0) (λ p. length (settled' p)) 0 frames n) (sym length_aside)
-          (linked_more (λ p. 0) (count_at f) (λ p. length (settled' p)) 0 frames f.set_aside
+          (linked_more (λ p. 0) (count_at f) (λ p. length (settled' p)) 0 frames f.set_aside_from
           (λ p. (let a = ap length (is p) in let b = counts p in omega (arith, a, b, length-append (prefix f settled p) (taken p)))) links.0);
       apart = finish_apart;
       listed_inside = finish_inside;
@@ -345,17 +345,17 @@ module _ {g : Graph} {U active : VertexSet} {settled : SettledLists} {set_aside 
           (waits_on g U (map (level_at U settled set_aside) frames) last.inside active' won won' s s' popped.0 t.same t.solved);
     }
 
-    pub finish_more : 0 < length own + length other → f.even + f.odd + f.set_aside < how_many_gone settled' A
+    pub finish_more : 0 < length own + length other → f.even + f.odd + f.set_aside_from < how_many_gone settled' A
     finish_more l = search (rules, f.even, f.odd, f.player, length_aside, is, length-append, counts)
 
 -- the levels of a solver at the end of its last one, and that the frame's counts fit
 pub end_levels : {g : Graph} {mask : List Bool} {x : Solver} {f : Frame} (h : IsAtEnd g mask x f)
-    → AreOpenLevels g (members mask) (active_of x.parts.subgame) (settled_of x.parts.settled) x.set_aside.items (h.before ++ f ∷ [])
-    (winners_of x.parts.subgame.plan) (choices_of x.parts.subgame.plan)
+    → AreOpenLevels g (members mask) (active_of x.partition.subgame) (settled_of x.partition.settled) x.set_aside.items (h.before ++ f ∷ [])
+    (winners_of x.partition.subgame.plan) (choices_of x.partition.subgame.plan)
 end_levels h = rw (← h.last) h.running.open_levels
 
 pub end_counts : {g : Graph} {mask : List Bool} {x : Solver} {f : Frame} → IsAtEnd g mask x f → (p : Player)
-    → count_at f p ≤ length (settled_of x.parts.settled p)
+    → count_at f p ≤ length (settled_of x.partition.settled p)
 end_counts {f = f} h = counts_fit h.before f (end_levels h)
 
 -- the frame is the one that is popped

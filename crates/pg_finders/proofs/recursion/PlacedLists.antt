@@ -8,8 +8,7 @@ use Rattle.std.proofs.lemmas.Bool.{lt-ltb, le-ltb}
 use Rattle.std.proofs.lemmas.List.{get_or-drop, get_or-replicate, length-drop, length-take-le, take-set-le, take_more}
 use Rattle.std.specs.List.{swap_remove}
 use Rattle.std.specs.Prelude.{◌^◌}
-use Rattle.pg_finders.specs.private.recursion.Places.{HasPlaces, ArePlaced, is_listed_from}
-use Rattle.pg_finders.specs.private.recursion.Settled.{IsWithout}
+use Rattle.pg_finders.specs.private.recursion.Settled.{HasPlaces, ArePlaced, is_listed_from, IsWithout}
 use Rattle.pg_finders.proofs.Sets.{no_both, minus, only}
 use Rattle.pg_finders.proofs.recursion.ListsAsSets.{listed_get, listed-append, prefix_or_rest, once_join, once_fits, apart_from, apart_other, all_below}
 use Rattle.pg_finders.proofs.recursion.RepeatedAttraction.{all_listed}

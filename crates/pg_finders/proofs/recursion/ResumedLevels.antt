@@ -1,13 +1,13 @@
--- A subgame that is taken up again: what its opponent has taken is settled, the rest waits again, and what its player still wins is settled.
+-- The levels where the recursion goes back: what its opponent has taken is settled, the rest waits again, and what its player still wins is settled.
 use Rattle.pg_finders.proofs.Common.{◌≡◌, ◌≢◌, ℕ, ◌+◌, ◌-◌, ◌<◌, Bool, false, ◌&&◌, not, ◌⊎◌, inl, inr, List, [], ◌∷◌, ◌++◌, length, take, drop}
 use Rattle.pg_finders.proofs.Common.{refl, sym, ◌∙◌, ap, subst, arith, append_assoc, length-append, fun_ext, append-nil, ◌==◌, eq-eqb, or_left, or_right, or_cases}
 use Rattle.pg_finders.proofs.Common.{and-true, cases_Bool, false_from_ne_true, Player, Even, Odd, opponent, Graph, HasEdge, owner_of, VertexSet, In, members, union, without}
 use Rattle.pg_finders.proofs.Common.{IsSubgame, own_or_other, Some, Plan, Frame, listed, Once, SettledLists, winners_of, choices_of, SameAt, how_many, IsBegun, IsSolvedInside, IsSolvedTo}
-use Rattle.pg_finders.proofs.Common.{IsAttracted, won_inside, WinsOn, place, HasTaken, AttractsNoActive, count_at, prefix, level_at, AreOpenLevels, gone, how_many_gone, priority_count, steps, steps_left}
+use Rattle.pg_finders.proofs.Common.{IsAttracted, won_inside, WinsOn, place, HasTaken, AttractsNoFurther, count_at, prefix, level_at, AreOpenLevels, gone, how_many_gone, priority_count, steps, steps_left}
 use Rattle.pg_finders.proofs.Common.{both_ways}
 use Rattle.std.proofs.Common.{length-drop, length-take}
 use Rattle.std.proofs.lemmas.List.{append_cancel_left}
-use Rattle.pg_finders.specs.private.recursion.Shrunk.{IsShrunk}
+use Rattle.pg_finders.specs.private.recursion.GoingBack.{IsShrunk}
 use Rattle.pg_finders.proofs.Sets.{not_both, no_both, only, minus, minus_both}
 use Rattle.pg_finders.proofs.recursion.ListsAsSets.{listed-append, in_prefix, prefix_or_rest, in_take, in_drop, once_join, once_drop, apart_from, listed_get}
 use Rattle.pg_finders.proofs.SolvedSubgames.{solved_none, IsSolvedTo-subst, IsSubgame-subst, IsAttracted-same, part_lost, left_is_subgame}
@@ -16,7 +16,7 @@ use Rattle.pg_finders.proofs.recursion.AttractionSteps.{grown_attracted}
 use Rattle.pg_finders.proofs.recursion.SharedLists.{cut, pick}
 use Rattle.pg_finders.proofs.recursion.LoopSteps.{Finishes, Begins, lists_fit, counts_fit, last_begun, since_inside, since_left, left_solved, won_since, finish_more}
 use Rattle.pg_finders.proofs.recursion.LoopSteps.{open_levels_begin, begins_deeper, open_levels_finish}
-use Rattle.pg_finders.proofs.recursion.KeptLevels.{SettlesMore, open_levels_settle, longer, work_resume, work_drop}
+use Rattle.pg_finders.proofs.recursion.KeptLevels.{SettlesMore, open_levels_settle, longer, work_go_back, work_drop}
 
 pick_own : (p : Player) (xs ys : List ℕ) → pick p xs ys p ≡ xs
 pick_own Even xs ys = refl
@@ -26,7 +26,7 @@ pick_other : (p : Player) (xs ys : List ℕ) → pick p xs ys (opponent p) ≡ y
 pick_other Even xs ys = refl
 pick_other Odd xs ys = refl
 
--- what is known of the last subgame where it is taken up again: what its opponent has taken, what is set aside, what its player keeps and wins back
+-- what is known of the last subgame where the recursion goes back: what its opponent has taken, what is set aside, what its player keeps and wins back
 pub record Resumes (g : Graph) (U : VertexSet) (frames : List Frame) (f : Frame) (active : VertexSet) (settled : SettledLists) (set_aside : List ℕ) (old : Plan)
     (taken aside : List ℕ) (k : ℕ) (kept : List ℕ) (A : VertexSet) (mid : Plan) (more : List ℕ) (Q : VertexSet) (settled' : SettledLists) (new : Plan) : Type 0 where
   pub run : AreOpenLevels g U active settled set_aside (frames ++ f ∷ []) (winners_of old) (choices_of old)
@@ -38,7 +38,7 @@ pub record Resumes (g : Graph) (U : VertexSet) (frames : List Frame) (f : Frame)
   pub own : settled' f.player ≡ (take (count_at f f.player) (settled f.player) ++ kept) ++ more
   pub other : settled' (opponent f.player) ≡ settled (opponent f.player) ++ taken
   pub grown : HasTaken g f.player A mid kept Q new (kept ++ more)
-  pub done : ((kept ≡ []) × (more ≡ [])) ⊎ AttractsNoActive g f.player (union A (listed kept)) (listed (kept ++ more)) Q
+  pub done : ((kept ≡ []) × (more ≡ [])) ⊎ AttractsNoFurther g f.player (union A (listed kept)) (listed (kept ++ more)) (listed (kept ++ more))
 
 module _ {g : Graph} {U : VertexSet} {frames : List Frame} {f : Frame} {active : VertexSet} {settled : SettledLists} {set_aside : List ℕ} {old : Plan}
     {taken aside : List ℕ} {k : ℕ} {kept : List ℕ} {A : VertexSet} {mid : Plan} {more : List ℕ} {Q : VertexSet} {settled' : SettledLists} {new : Plan}
@@ -76,7 +76,7 @@ module _ {g : Graph} {U : VertexSet} {frames : List Frame} {f : Frame} {active :
   between r = prefix f settled r ++ pick p [] B r
 
   abbrev pub left_aside : List ℕ
-  left_aside = take f.set_aside set_aside
+  left_aside = take f.set_aside_from set_aside
 
   abbrev Y : List ℕ
   Y = kept ++ more
@@ -165,7 +165,7 @@ module _ {g : Graph} {U : VertexSet} {frames : List Frame} {f : Frame} {active :
   some_lost : 0 < length B
   some_lost = (let a = counts_fit frames f h.run q in omega (arith, a, h.some, length-drop (count_at f q) (settled q), length-append (since q) taken))
 
-  finished_more : f.even + f.odd + f.set_aside < how_many_gone between left_aside
+  finished_more : f.even + f.odd + f.set_aside_from < how_many_gone between left_aside
   finished_more = finish_more frames f h.run finishes (omega (arith, some_lost))
 
   again : IsAttracted g p (without (without I L) (listed B)) (without T (listed B)) (listed aside) (choices_of new) (place aside)
@@ -294,12 +294,12 @@ module _ {g : Graph} {U : VertexSet} {frames : List Frame} {f : Frame} {active :
   }
 
   -- Some top is left, and the subgame waits again.
-  module _ (f' : Frame) (player : f'.player ≡ p) (counts : (r : Player) → count_at f' r ≡ length (between r)) (from : f'.set_aside ≡ length left_aside)
-      (tops : f'.tops ≡ f'.set_aside + k) (upto : f'.upto ≡ length (left_aside ++ aside)) (some : 0 < k) where
+  module _ (f' : Frame) (player : f'.player ≡ p) (counts : (r : Player) → count_at f' r ≡ length (between r)) (from : f'.set_aside_from ≡ length left_aside)
+      (tops : f'.tops_upto ≡ f'.set_aside_from + k) (upto : f'.set_aside_upto ≡ length (left_aside ++ aside)) (some : 0 < k) where
     some_top : (t : ℕ) × In (listed (take k aside)) t
     some_top = (let l = h.shrunk.few in (_, listed_get (take k aside) 0 0 (omega (arith, l, some, length-take k aside))))
 
-    first : f'.tops - f'.set_aside ≡ k
+    first : f'.tops_upto - f'.set_aside_from ≡ k
     first = omega (arith, tops)
 
     begins : Begins g U J R between left_aside aside frames f' (winners_of new) (winners_of new) (choices_of new) (choices_of new)
@@ -308,7 +308,7 @@ module _ {g : Graph} {U : VertexSet} {frames : List Frame} {f : Frame} {active :
       within = aside_now.inside;
       once = h.shrunk.aside_once;
       left = λ v. refl;
-      begun = subst (λ (r : Player). IsBegun g J (listed (take (f'.tops - f'.set_aside) aside)) R r (winners_of new) (choices_of new)) (sym player)
+      begun = subst (λ (r : Player). IsBegun g J (listed (take (f'.tops_upto - f'.set_aside_from) aside)) R r (winners_of new) (choices_of new)) (sym player)
           (subst (λ n. IsBegun g J (listed (take n aside)) R p (winners_of new) (choices_of new)) (sym first) (begun_now some_top));
       same = λ v n. (refl, refl);
       counts = counts;
@@ -329,7 +329,7 @@ module _ {g : Graph} {U : VertexSet} {frames : List Frame} {f : Frame} {active :
         let more_even = longer (open_levels_begin begins) settles Even in
         let more_odd = longer (open_levels_begin begins) settles Odd in
         let l = h.shrunk.few in
-        work_resume (priority_count g U) (how_many mask) m (how_many_gone between left_aside) (how_many_gone between (left_aside ++ aside)) (how_many_gone settled' (left_aside ++ aside))
+        work_go_back (priority_count g U) (how_many mask) m (how_many_gone between left_aside) (how_many_gone between (left_aside ++ aside)) (how_many_gone settled' (left_aside ++ aside))
         frames f f' (begins_deeper begins) finished_more (omega (arith, even, odd, from)) (omega (arith, l, some, length-append left_aside aside)) (omega (arith, more_even, more_odd))
         (lists_fit mask resumed_levels.apart (subst (λ Z. (v : ℕ) → In (gone settled' (left_aside ++ aside)) v → In Z v) (sym same) resumed_levels.listed_inside))
 

@@ -1,13 +1,13 @@
--- The solver where the last subgame is taken up again: the levels, and the steps that are left.
+-- The solver where the recursion goes back: the levels, and the steps that are left.
 use Rattle.pg_finders.proofs.Common.{◌≡◌, ◌≢◌, ℕ, ◌<◌, ◌≤◌, Bool, inl, inr, List, [], ◌∷◌, ◌++◌, length, take, drop, refl, sym, ◌∙◌, ap, subst}
 use Rattle.pg_finders.proofs.Common.{VertexSet, arith, take-append-drop, Player, Even, Odd, opponent, Graph, In, Within, members, Frame, listed, Once, SettledLists, settled_of}
 use Rattle.pg_finders.proofs.Common.{winners_of, choices_of, active_of, AreVertices, IsOrder, count_at, AreOpenLevels, IsAtEnd, IsSolverState, how_many_gone, work}
 use Rattle.std.proofs.Common.{length-take}
 use Rattle.pg_finders.specs.declared.recursion.Solver.{Solver}
 use Rattle.pg_finders.specs.declared.recursion.order.Order.{Order}
-use Rattle.pg_finders.specs.private.recursion.Parts.{AreParts}
-use Rattle.pg_finders.specs.private.recursion.OpenLevels.{tail_at}
-use Rattle.pg_finders.specs.private.recursion.Shrunk.{Shrinks, WaitsAgain, WinsBack, KeepsLists, count_again, frame_of}
+use Rattle.pg_finders.specs.private.recursion.Partition.{IsPartition}
+use Rattle.pg_finders.specs.private.recursion.Solver.{tail_at}
+use Rattle.pg_finders.specs.private.recursion.GoingBack.{Shrinks, PushesFrameAgain, WinsBack, KeepsLists, count_again, frame_of}
 use Rattle.pg_finders.proofs.recursion.AttractionSteps.{grown_active}
 use Rattle.pg_finders.proofs.recursion.ListsAsSets.{once_drop}
 use Rattle.pg_finders.proofs.recursion.PlacedLists.{lists_once}
@@ -15,16 +15,16 @@ use Rattle.pg_finders.proofs.recursion.ResumedLevels.{Resumes, between, left_asi
 use Rattle.pg_finders.proofs.recursion.ResumedLevels.{dropped_fewer}
 
 -- what does not change where a subgame waits again
-pub record SameParts (x x' : Solver) : Type 0 where
-  pub parts : x'.parts ≡ x.parts
+pub record SamePartition (x x' : Solver) : Type 0 where
+  pub partition : x'.partition ≡ x.partition
   pub order : x'.order ≡ x.order
   pub opened : x'.opened ≡ x.opened
   pub size : x'.size ≡ x.size
 
-pub after_wait : (f : Frame) (k : ℕ) (x x' : Solver) → WaitsAgain f k x x' → SameParts x x'
-after_wait f k x x' h = elim h [
-  | inl a ↦ record { parts = ap (λ s. s.parts) a.1; order = ap (λ s. s.order) a.1; opened = ap (λ s. s.opened) a.1; size = ap (λ s. s.size) a.1 }
-  | inr a ↦ record { parts = a.1.parts; order = a.1.order; opened = a.1.opened; size = a.1.size }
+pub after_push : (f : Frame) (k : ℕ) (x x' : Solver) → PushesFrameAgain f k x x' → SamePartition x x'
+after_push f k x x' h = elim h [
+  | inl a ↦ record { partition = ap (λ s. s.partition) a.1; order = ap (λ s. s.order) a.1; opened = ap (λ s. s.opened) a.1; size = ap (λ s. s.size) a.1 }
+  | inr a ↦ record { partition = a.1.partition; order = a.1.order; opened = a.1.opened; size = a.1.size }
 ]
 
 -- what is left of a list is as long as what is kept of it
@@ -32,33 +32,33 @@ still_fits : (k : ℕ) (xs ys : List ℕ) → take k ys ≡ take k xs → k ≤ 
 still_fits k xs ys e l = omega (arith, l, ap length e, length-take k xs, length-take k ys)
 
 -- what the player's attraction wants of the solver that waits again
-module _ {g : Graph} {U : VertexSet} {f : Frame} {x x1 x2 : Solver} {k : ℕ} (h : Shrinks g U f x x1 k) (w : WaitsAgain f k x1 x2) where
-  abbrev same : SameParts x1 x2
-  same = after_wait f k x1 x2 w
+module _ {g : Graph} {U : VertexSet} {f : Frame} {x x1 x2 : Solver} {k : ℕ} (h : Shrinks g U f x x1 k) (w : PushesFrameAgain f k x1 x2) where
+  abbrev same : SamePartition x1 x2
+  same = after_push f k x1 x2 w
 
-  pub back_parts : AreParts (length g) x2.parts
-  back_parts = subst (AreParts (length g)) (sym same.parts) h.parts
+  pub back_partition : IsPartition (length g) x2.partition
+  back_partition = subst (IsPartition (length g)) (sym same.partition) h.partition
 
   pub back_right : AreVertices g x2.opened.items
   back_right = subst (λ o. AreVertices g o.items) (sym same.opened) h.opened_right
 
-  pub back_listed : Within (active_of x2.parts.subgame) (listed x2.opened.items)
-  back_listed v i = subst (λ o. In (listed o.items) v) (sym same.opened) (h.opened_all v (subst (λ y. In (active_of y.subgame) v) same.parts i))
+  pub back_listed : Within (active_of x2.partition.subgame) (listed x2.opened.items)
+  back_listed v i = subst (λ o. In (listed o.items) v) (sym same.opened) (h.opened_all v (subst (λ y. In (active_of y.subgame) v) same.partition i))
 
-  pub back_counts : count_at f f.player ≤ length (settled_of x.parts.settled f.player)
-      → count_at f f.player ≤ length (settled_of x2.parts.settled f.player)
-  back_counts l = still_fits (count_at f f.player) (settled_of x.parts.settled f.player) (settled_of x2.parts.settled f.player)
-      (subst (λ y. take (count_at f f.player) (settled_of y.settled f.player) ≡ take (count_at f f.player) (settled_of x.parts.settled f.player))
-      (sym same.parts) h.before) l
+  pub back_counts : count_at f f.player ≤ length (settled_of x.partition.settled f.player)
+      → count_at f f.player ≤ length (settled_of x2.partition.settled f.player)
+  back_counts l = still_fits (count_at f f.player) (settled_of x.partition.settled f.player) (settled_of x2.partition.settled f.player)
+      (subst (λ y. take (count_at f f.player) (settled_of y.settled f.player) ≡ take (count_at f f.player) (settled_of x.partition.settled f.player))
+      (sym same.partition) h.before) l
 
 -- what the calls say of the solver x and the solvers after each of them
 pub record IsResumed (g : Graph) (mask : List Bool) (f : Frame) (x x1 x2 x3 : Solver) (k : ℕ) : Type 0 where
   pub at_end : IsAtEnd g mask x f
-  pub some : length (settled_of x.parts.settled (opponent f.player)) ≢ count_at f (opponent f.player)
+  pub some : length (settled_of x.partition.settled (opponent f.player)) ≢ count_at f (opponent f.player)
   pub shrinks : Shrinks g (members mask) f x x1 k
-  pub waits : WaitsAgain f k x1 x2
-  pub wins : WinsBack g (tail_at f f.player) x2.parts x3.parts
-  pub parts : AreParts (length g) x3.parts
+  pub waits : PushesFrameAgain f k x1 x2
+  pub wins : WinsBack g (tail_at f f.player) x2.partition x3.partition
+  pub partition : IsPartition (length g) x3.partition
   pub same : KeepsLists x2 x3
 
 module _ {g : Graph} {mask : List Bool} {f : Frame} {x x1 x2 x3 : Solver} {k : ℕ} (h : IsResumed g mask f x x1 x2 x3 k) where
@@ -66,25 +66,25 @@ module _ {g : Graph} {mask : List Bool} {f : Frame} {x x1 x2 x3 : Solver} {k : �
   p = f.player
 
   abbrev settled : Solver → SettledLists
-  settled y = settled_of y.parts.settled
+  settled y = settled_of y.partition.settled
 
   abbrev kept : List ℕ
   kept = drop (count_at f p) (settled x1 p)
 
-  waited : SameParts x1 x2
-  waited = after_wait f k x1 x2 h.waits
+  waited : SamePartition x1 x2
+  waited = after_push f k x1 x2 h.waits
 
-  wins : WinsBack g (tail_at f p) x1.parts x3.parts
-  wins = subst (λ y. WinsBack g (tail_at f p) y x3.parts) waited.parts h.wins
+  wins : WinsBack g (tail_at f p) x1.partition x3.partition
+  wins = subst (λ y. WinsBack g (tail_at f p) y x3.partition) waited.partition h.wins
 
-  resumes : Resumes g (members mask) x1.frames.items f (active_of x.parts.subgame) (settled x) x.set_aside.items x.parts.subgame.plan h.shrinks.taken
-      x1.list.items k kept (active_of x1.parts.subgame) x1.parts.subgame.plan wins.more (active_of x3.parts.subgame) (settled x3) x3.parts.subgame.plan
+  resumes : Resumes g (members mask) x1.frames.items f (active_of x.partition.subgame) (settled x) x.set_aside.items x.partition.subgame.plan h.shrinks.taken
+      x1.list.items k kept (active_of x1.partition.subgame) x1.partition.subgame.plan wins.more (active_of x3.partition.subgame) (settled x3) x3.partition.subgame.plan
   resumes = record {
     run = rw (← h.shrinks.frames) h.at_end.running.open_levels;
     none = h.at_end.none;
     some = h.some;
     shrunk = h.shrinks.shrunk;
-    kept_once = once_drop (count_at f p) (settled x1 p) (lists_once h.shrinks.parts.placed p);
+    kept_once = once_drop (count_at f p) (settled x1 p) (lists_once h.shrinks.partition.placed p);
     own = wins.own ∙ ap (λ xs. xs ++ wins.more) (sym (take-append-drop (count_at f p) (settled x1 p)) ∙ ap (λ xs. xs ++ kept) h.shrinks.before);
     other = wins.other ∙ h.shrinks.lost;
     grown = wins.grown;
@@ -114,8 +114,8 @@ module _ {g : Graph} {mask : List Bool} {f : Frame} {x x1 x2 x3 : Solver} {k : �
   aside_is = ap (λ xs. xs ++ x1.list.items) h.shrinks.set_aside
 
   -- the levels as they are now, of which fewer steps are left
-  now : AreOpenLevels g (members mask) (active_of x3.parts.subgame) (settled x3) x3.set_aside.items x3.frames.items (winners_of x3.parts.subgame.plan)
-      (choices_of x3.parts.subgame.plan) × (work g mask x3 < work g mask x)
+  now : AreOpenLevels g (members mask) (active_of x3.partition.subgame) (settled x3) x3.set_aside.items x3.frames.items (winners_of x3.partition.subgame.plan)
+      (choices_of x3.partition.subgame.plan) × (work g mask x3 < work g mask x)
   now = elim h.waits [
     | inl a ↦ (
         let aside : x3.set_aside.items ≡ left_aside resumes = ap (λ s. s.items) (h.same.set_aside ∙ ap (λ s. s.set_aside) a.1) ∙ h.shrinks.set_aside in
@@ -136,14 +136,14 @@ module _ {g : Graph} {mask : List Bool} {f : Frame} {x x1 x2 x3 : Solver} {k : �
   pub fewer_now : work g mask x3 < work g mask x
   fewer_now = now.1
 
-  pub running_now : (order : Order) → IsOrder g (active_of x3.parts.subgame) order → IsSolverState g mask (record x3 { order = order })
+  pub running_now : (order : Order) → IsOrder g (active_of x3.partition.subgame) order → IsSolverState g mask (record x3 { order = order })
   running_now order is = record {
     inside_length = h.at_end.running.inside_length;
     whole = h.same.size ∙ (waited.size ∙ (h.shrinks.size ∙ h.at_end.running.whole));
-    sizes = h.parts.sizes;
+    sizes = h.partition.sizes;
     subgame = resumed_subgame resumes;
     order = is;
-    placed = h.parts.placed;
+    placed = h.partition.placed;
     open_levels = now.0;
   }
 
@@ -157,5 +157,5 @@ module _ {g : Graph} {mask : List Bool} {f : Frame} {x x1 x2 x3 : Solver} {k : �
   pub opened_once : Once x3.opened.items
   opened_once = subst (λ o. Once o.items) (sym opened_same) h.shrinks.opened_once
 
-  pub opened_all : Within (active_of x3.parts.subgame) (listed x3.opened.items)
+  pub opened_all : Within (active_of x3.partition.subgame) (listed x3.opened.items)
   opened_all v i = subst (λ o. In (listed o.items) v) (sym opened_same) (h.shrinks.opened_all v (grown_active wins.grown v i))

@@ -54,23 +54,23 @@ in_part U settled set_aside v u f a = minus u (gone_none settled set_aside v f a
 
 linked_le : (i n : Player → ℕ) (first : ℕ) (frames : List Frame) (last : ℕ) → Linked i n first frames last → ((p : Player) → i p ≤ n p) × (first ≤ last)
 linked_le i n first [] last l = (l.0, omega (arith, l.1))
-linked_le i n first (x ∷ xs) last l = (let h = linked_le (count_at x) n x.upto xs last l.3 in
+linked_le i n first (x ∷ xs) last l = (let h = linked_le (count_at x) n x.set_aside_upto xs last l.3 in
     (λ p. (let a = l.0 p in let b = h.0 p in omega (arith, a, b)), omega (arith, l.1, l.2.0, l.2.1, h.1)))
 
 pub linked_more : (i n m : Player → ℕ) (first : ℕ) (frames : List Frame) (last : ℕ) → ((p : Player) → n p ≤ m p) → Linked i n first frames last
     → Linked i m first frames last
 linked_more i n m first [] last e l = (λ p. (let a = e p in let b = l.0 p in omega (arith, a, b)), l.1)
-linked_more i n m first (x ∷ xs) last e l = (l.0, l.1, l.2, linked_more (count_at x) n m x.upto xs last e l.3)
+linked_more i n m first (x ∷ xs) last e l = (l.0, l.1, l.2, linked_more (count_at x) n m x.set_aside_upto xs last e l.3)
 
-pub linked_push : (i n : Player → ℕ) (first : ℕ) (frames : List Frame) (last : ℕ) (f : Frame) → Linked i n first frames last → f.set_aside ≡ last
-    → (f.set_aside ≤ f.tops) × (f.tops ≤ f.upto) → ((p : Player) → count_at f p ≡ n p) → Linked i n first (frames ++ f ∷ []) f.upto
+pub linked_push : (i n : Player → ℕ) (first : ℕ) (frames : List Frame) (last : ℕ) (f : Frame) → Linked i n first frames last → f.set_aside_from ≡ last
+    → (f.set_aside_from ≤ f.tops_upto) × (f.tops_upto ≤ f.set_aside_upto) → ((p : Player) → count_at f p ≡ n p) → Linked i n first (frames ++ f ∷ []) f.set_aside_upto
 linked_push i n first [] last f l a b c = search (rules)
-linked_push i n first (x ∷ xs) last f l a b c = (l.0, l.1, l.2, linked_push (count_at x) n x.upto xs last f l.3 a b c)
+linked_push i n first (x ∷ xs) last f l a b c = (l.0, l.1, l.2, linked_push (count_at x) n x.set_aside_upto xs last f l.3 a b c)
 
 pub linked_pop : (i n : Player → ℕ) (first : ℕ) (frames : List Frame) (last : ℕ) (f : Frame) → Linked i n first (frames ++ f ∷ []) last
-    → Linked i (count_at f) first frames f.set_aside × ((f.set_aside ≤ f.tops) × (f.tops ≤ f.upto)) × ((p : Player) → count_at f p ≤ n p) × (f.upto ≡ last)
+    → Linked i (count_at f) first frames f.set_aside_from × ((f.set_aside_from ≤ f.tops_upto) × (f.tops_upto ≤ f.set_aside_upto)) × ((p : Player) → count_at f p ≤ n p) × (f.set_aside_upto ≡ last)
 linked_pop i n first [] last f l = ((l.0, sym l.1), l.2, l.3.0, l.3.1)
-linked_pop i n first (x ∷ xs) last f l = let h = linked_pop (count_at x) n x.upto xs last f l.3 in ((l.0, l.1, l.2, h.0), h.1, h.2, h.3)
+linked_pop i n first (x ∷ xs) last f l = let h = linked_pop (count_at x) n x.set_aside_upto xs last f l.3 in ((l.0, l.1, l.2, h.0), h.1, h.2, h.3)
 
 -- the levels are the same where the lists agree up to the stops
 pub levels_same : (U : VertexSet) (settled : SettledLists) (set_aside : List ℕ) (settled' : SettledLists) (set_aside' : List ℕ) (i n : Player
@@ -79,35 +79,35 @@ pub levels_same : (U : VertexSet) (settled : SettledLists) (set_aside : List ℕ
     → ((k : ℕ) → k ≤ last → take k set_aside' ≡ take k set_aside) → map (level_at U settled' set_aside') frames ≡ map (level_at U settled set_aside) frames
 levels_same U settled set_aside settled' set_aside' i n first last [] l f h = refl
 levels_same U settled set_aside settled' set_aside' i n first last (x ∷ xs) l f h =
-    let le = linked_le (count_at x) n x.upto xs last l.3 in
+    let le = linked_le (count_at x) n x.set_aside_upto xs last l.3 in
     let a : prefix x settled' ≡ prefix x settled = fun_ext (λ p. f p (count_at x p) (le.0 p)) in
-    let b = h x.set_aside (omega (arith, l.2.0, l.2.1, le.1)) in
-    let t : drop x.set_aside (take x.tops set_aside') ≡ drop x.set_aside (take x.tops set_aside) =
-    ap (drop x.set_aside) (h x.tops (omega (arith, l.2.1, le.1))) in
+    let b = h x.set_aside_from (omega (arith, l.2.0, l.2.1, le.1)) in
+    let t : drop x.set_aside_from (take x.tops_upto set_aside') ≡ drop x.set_aside_from (take x.tops_upto set_aside) =
+    ap (drop x.set_aside_from) (h x.tops_upto (omega (arith, l.2.1, le.1))) in
     let here : level_at U settled' set_aside' x ≡ level_at U settled set_aside x =
     ap (λ s. record {
-      inside = part U s (take x.set_aside set_aside');
-      tops = listed (drop x.set_aside (take x.tops set_aside'));
-      left = part U s (take x.upto set_aside');
+      inside = part U s (take x.set_aside_from set_aside');
+      tops = listed (drop x.set_aside_from (take x.tops_upto set_aside'));
+      left = part U s (take x.set_aside_upto set_aside');
       player = x.player;
     }) a
     ∙ (ap (λ xs. record {
       inside = part U (prefix x settled) xs;
-      tops = listed (drop x.set_aside (take x.tops set_aside'));
-      left = part U (prefix x settled) (take x.upto set_aside');
+      tops = listed (drop x.set_aside_from (take x.tops_upto set_aside'));
+      left = part U (prefix x settled) (take x.set_aside_upto set_aside');
       player = x.player;
     }) b
     ∙ (ap (λ xs. record {
-      inside = part U (prefix x settled) (take x.set_aside set_aside);
+      inside = part U (prefix x settled) (take x.set_aside_from set_aside);
       tops = listed xs;
-      left = part U (prefix x settled) (take x.upto set_aside');
+      left = part U (prefix x settled) (take x.set_aside_upto set_aside');
       player = x.player;
     }) t
     ∙ ap (λ xs. record {
-      inside = part U (prefix x settled) (take x.set_aside set_aside);
-      tops = listed (drop x.set_aside (take x.tops set_aside));
+      inside = part U (prefix x settled) (take x.set_aside_from set_aside);
+      tops = listed (drop x.set_aside_from (take x.tops_upto set_aside));
       left = part U (prefix x settled) xs;
       player = x.player;
-    }) (h x.upto le.1))) in
+    }) (h x.set_aside_upto le.1))) in
     ap (λ y. y ∷ map (level_at U settled' set_aside') xs) here
-    ∙ ap (λ ys. level_at U settled set_aside x ∷ ys) (levels_same U settled set_aside settled' set_aside' (count_at x) n x.upto last xs l.3 f h)
+    ∙ ap (λ ys. level_at U settled set_aside x ∷ ys) (levels_same U settled set_aside settled' set_aside' (count_at x) n x.set_aside_upto last xs l.3 f h)

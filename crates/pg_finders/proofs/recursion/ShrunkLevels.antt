@@ -1,9 +1,9 @@
--- What is owed where a subgame is taken up again after its opponent has won something in its rest: he takes what he attracts, what the
+-- What is owed where the recursion goes back: the opponent takes what he attracts, what the
 -- greatest vertices that are left attract is set aside again, and of what its player had won he keeps that on which nothing has changed.
 use Rattle.pg_finders.proofs.Common.{◌≡◌, ℕ, false, true, ◌⊎◌, inl, inr, List, [], ◌∷◌, ◌++◌, take, drop, ◌==◌, refl, sym, ◌∙◌, ap}
 use Rattle.pg_finders.proofs.Common.{subst, fun_ext, cases_Bool, or_cases, or_left, or_right, or_parts, eqb-true, false_from_ne_true, Bool, opponent, Graph}
-use Rattle.pg_finders.proofs.Common.{HasEdge, owner_of, VertexSet, In, Within, union, without, own_or_other, Plan, Frame, Level, listed, SettledLists}
-use Rattle.pg_finders.proofs.Common.{winners_of, choices_of, SameAt, SameOutside, IsBegun, WinsOn, IsAttracted, place, HasTaken, AttractsNoActive}
+use Rattle.pg_finders.proofs.Common.{HasEdge, owner_of, VertexSet, In, Within, union, without, other_from_not, own_or_other, Plan, Frame, Level, listed, SettledLists}
+use Rattle.pg_finders.proofs.Common.{winners_of, choices_of, SameAt, SameOutside, IsBegun, WinsOn, IsAttracted, place, HasTaken, AttractsNoFurther}
 use Rattle.pg_finders.proofs.Common.{count_at, level_at, AreOpenLevels, both_ways}
 use Rattle.std.specs.List.{filter}
 use Rattle.std.proofs.lemmas.List.{append_cancel_left}
@@ -38,7 +38,7 @@ pub record IsShared (g : Graph) (level : Level) (aside lost won : List ℕ) (old
 -- the last subgame that waits is so where nothing is active
 pub end_shared : {g : Graph} {U active : VertexSet} {settled : SettledLists} {set_aside : List ℕ} (frames : List Frame) (f : Frame) {old : Plan}
     → AreOpenLevels g U active settled set_aside (frames ++ f ∷ []) (winners_of old) (choices_of old) → ((v : ℕ) → active v ≡ false)
-    → IsShared g (level_at U settled set_aside f) (drop f.set_aside set_aside) (drop (count_at f (opponent f.player)) (settled (opponent f.player)))
+    → IsShared g (level_at U settled set_aside f) (drop f.set_aside_from set_aside) (drop (count_at f (opponent f.player)) (settled (opponent f.player)))
     (drop (count_at f f.player) (settled f.player)) old
 end_shared {g} {U} {active} {settled} {set_aside} frames f {old} h none = record {
   begun = last_begun frames f h;
@@ -52,7 +52,7 @@ end_shared {g} {U} {active} {settled} {set_aside} frames f {old} h none = record
   aside_out = λ v i. (
     aside_inside frames f h v i,
     false_from_ne_true ((level_at U settled set_aside f).left v) (λ y. (let k = left_cases frames f h none v y in
-        no_both (in_drop f.set_aside set_aside v i) (h.apart.aside_apart k.0 v (in_drop (count_at f k.0) (settled k.0) v k.1)))),
+        no_both (in_drop f.set_aside_from set_aside v i) (h.apart.aside_apart k.0 v (in_drop (count_at f k.0) (settled k.0) v k.1)))),
   );
   won_left = since_left frames f h f.player;
   lost_left = since_left frames f h (opponent f.player);
@@ -109,20 +109,24 @@ module _ {g : Graph} {level : Level} {aside lost won : List ℕ} {old : Plan} (s
       | inr (inr w) ↦ or_right (F v) (listed lost v) w
     ])
 
-    mine : (v : ℕ) → In (without F (listed aside)) v → In (listed won) v
-    mine v i = (let b = only (F v) (listed aside v) i in elim (free_cases v b.0) [ inl a ↦ absurd (no_both a b.1) | inr w ↦ w ])
+    mine : (v : ℕ) → In (union F (listed lost)) v → listed (lost ++ aside) v ≡ false → In (listed won) v
+    mine v u n = (let b = or_parts (listed lost v) (listed aside v) (sym (listed-append lost aside v) ∙ n) in
+        elim (or_cases (F v) (listed lost v) u) [
+          | inl f ↦ elim (free_cases v f) [ inl a ↦ absurd (no_both a b.1) | inr w ↦ w ]
+          | inr l ↦ absurd (no_both l b.0)
+        ])
 
     -- nothing that the player won leads to what the opponent won
-    pub at_most : AttractsNoActive g (opponent level.player) (union F (listed lost)) (listed lost) (without F (listed aside))
+    pub at_most : AttractsNoFurther g (opponent level.player) (union F (listed lost)) (listed lost) (listed (lost ++ aside))
     at_most = record {
-      own = λ v w i o e. false_from_ne_true (listed lost w) (λ y. s.apart w (s.holds.closed v w (mine v i) o e (s.lost_left w y)) y);
-      other = λ v i o. (let c = s.holds.choices v (mine v i) (o ∙ twice level.player) in
+      own = λ v w u n o e. false_from_ne_true (listed lost w) (λ y. s.apart w (s.holds.closed v w (mine v u n) o e (s.lost_left w y)) y);
+      other = λ v u n o. (let c = s.holds.choices v (mine v u n) (other_from_not (opponent level.player) (owner_of g v) o ∙ twice level.player) in
           (c.0, c.2, or_left (F c.0) (listed lost c.0) (free_won c.0 c.3), false_from_ne_true (listed lost c.0) (λ y. s.apart c.0 c.3 y)));
     }
 
     -- The opponent has taken what he attracts.
     module _ {mid : Plan} (taken : List ℕ) (grown : HasTaken g (opponent level.player) F old lost (without F (listed taken)) mid (lost ++ taken))
-        (done : AttractsNoActive g (opponent level.player) (union F (listed lost)) (listed (lost ++ taken)) (without F (listed taken))) where
+        (done : AttractsNoFurther g (opponent level.player) (union F (listed lost)) (listed (lost ++ taken)) (listed (lost ++ taken))) where
       abbrev B : VertexSet
       B = listed (lost ++ taken)
 

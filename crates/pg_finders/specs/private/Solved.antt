@@ -41,12 +41,12 @@ pub record IsAttracted (g : Graph) (p : Player) (U T A : VertexSet) (s : Choices
   pub leads : (v : ℕ) → In A v → T v ≡ false → owner_of g v ≡ p → (w : ℕ) × (s v ≡ Some w) × HasEdge g v w × In A w × (rank w < rank v)
   pub pushed : (v w : ℕ) → In A v → T v ≡ false → owner_of g v ≡ opponent p → HasEdge g v w → In U w → In A w × (rank w < rank v)
 
--- U is begun: the target T attracts for the player, and L is the rest of U; each vertex of U that is no less than some target has his parity
+-- U is begun: the target T attracts for the player, and L is the rest of U; the targets have his parity, and all other vertices of U are less
 pub record IsBegun (g : Graph) (U T L : VertexSet) (p : Player) (won : Winners) (s : Choices) : Type 0 where
   pub subgame : IsSubgame g U
   pub within : Within L U
   pub rank : ℕ → ℕ
-  pub above : (t v : ℕ) → In T t → In U v → priority_of g t ≤ priority_of g v → of_parity (priority_of g v) ≡ p
+  pub parity : (t : ℕ) → In T t → of_parity (priority_of g t) ≡ p
   pub below : (t v : ℕ) → In T t → In U v → T v ≡ false → priority_of g v < priority_of g t
   pub attracted : IsAttracted g p U T (without U L) s rank
   pub chosen : (v : ℕ) → In T v → owner_of g v ≡ p → (w : ℕ) × (s v ≡ Some w) × HasEdge g v w × In U w

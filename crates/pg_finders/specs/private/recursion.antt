@@ -1,13 +1,7 @@
--- The invariants of the recursion.
-pub mod Plans
-pub mod Levels
-pub mod OpenLevels
-pub mod Listed
+-- The invariants of the recursion, in the order in which a reader needs them.
+pub mod Subgame
 pub mod Order
-pub mod TakenVertices
-pub mod Places
 pub mod Settled
-pub mod Parts
-pub mod KeptParts
-pub mod SolverState
-pub mod Shrunk
+pub mod Partition
+pub mod Solver
+pub mod GoingBack

@@ -4,9 +4,8 @@
 ghost use Rattle.std.specs.Prelude.{◌≡◌, ◌<◌, ◌+◌, ◌^◌, ◌++◌, ℕ, List, length, [], IfOk, OnOk, All, slice_index_or, false};
 ghost use Rattle.pg_game.specs.Player.{opponent};
 ghost use Rattle.pg_game.specs.VertexSet.{In};
-ghost use Rattle.pg_finders.specs.private.recursion.Listed.{listed, Once, Apart};
-ghost use Rattle.pg_finders.specs.private.recursion.Settled.{settled_of, since, IsPlaced, IsWithout};
-ghost use Rattle.pg_finders.specs.private.recursion.Places.{HasPlaces, is_listed_from};
+ghost use Rattle.pg_finders.specs.private.recursion.Subgame.{listed, Once, Apart};
+ghost use Rattle.pg_finders.specs.private.recursion.Settled.{settled_of, since, IsPlaced, IsWithout, HasPlaces, is_listed_from};
 
 use pg_game::{Memory, Player};
 use std::alloc::Global;

@@ -3,21 +3,13 @@
 //! For each vertex a cursor keeps the place among its successors where the last search for a free one ended. If successors are taken
 //! one by one, the searches pass over them once.
 
-ghost use Rattle.std.specs.Prelude.{◌≡◌, ◌<◌, ℕ, [], length, take, All, IfOk, OnOk, ◌≢◌, Some};
-ghost use Rattle.pg_game.specs.Graph.{HasEdge};
-ghost use Rattle.pg_game.specs.Player.{of_parity};
-ghost use Rattle.pg_game.specs.VertexSet.{In, Within, all_vertices, members, union, without};
-ghost use Rattle.pg_game.specs.Subgame.{IsSubgame};
-ghost use Rattle.pg_finders.specs.private.recursion.Listed.{listed};
-ghost use Rattle.pg_dominion.specs.AttractorState.{AttractsNoFurther};
-ghost use Rattle.pg_finders.specs.private.recursion.TakenVertices.{active_of, HasSizes, IsReady, HasTaken, AttractsNoActive};
-ghost use Rattle.pg_finders.specs.private.recursion.Order.{AreGreatest};
-ghost use Rattle.pg_finders.specs.private.recursion.Plans.{winners_of, choices_of, IsGiven, SameOutside, HasSize, SameAt};
-ghost use Rattle.pg_finders.specs.private.Solved.{IsBegun};
+ghost use Rattle.std.specs.Prelude.{◌≡◌, ◌<◌, ℕ, length, All, IfOk, ◌≢◌};
+ghost use Rattle.pg_game.specs.VertexSet.{members, without};
+ghost use Rattle.pg_finders.specs.private.recursion.Subgame.{listed, HasSizes, row_of, winners_of, choices_of, SameAt};
 
-use crate::inside::{View, successor_in};
-use pg_dominion::{AttractorState, Cursors, attract_from};
-use pg_game::{Game, Mask, Memory, Player};
+use crate::inside::View;
+use pg_dominion::Cursors;
+use pg_game::{Mask, Memory, Player};
 use std::alloc::Global;
 
 /// The active vertices and the plan.
@@ -45,52 +37,39 @@ impl Subgame {
     }
 }
 
-/// The winner of each vertex, and the choices.
+/// For each vertex its winner, and a choice or none, in the shape of a solution's rows.
 #[derive(Drop)]
 pub struct Plan {
-    winners: Vec<Player>,
-    choices: Vec<Option<u32>>,
+    rows: Vec<(Player, Option<u32>)>,
 }
 
 impl Plan {
     /// A plan for so many vertices, which says nothing yet.
     pub fn new(alloc: Global, n: u32) -> Result<Plan, Memory>
-        ensures { IfOk result (λ plan. HasSize n plan) }
+        ensures { IfOk result (λ plan. length plan.rows.items ≡ n) }
     {
         Ok(Plan {
-            winners: vec![in alloc; Player::Even; n as usize]?,
-            choices: vec![in alloc; None; n as usize]?,
+            rows: vec![in alloc; (Player::Even, None); n as usize]?,
         })
     }
 
-    /// The winner of the vertex.
-    pub fn winner(&self, v: u32) -> Player
-        requires { v < length self.now.winners.items }
-        ensures { result ≡ winners_of self.now v }
+    /// The winner of the vertex, and the choice if there is one.
+    pub fn row(&self, v: u32) -> (Player, Option<u32>)
+        requires { v < length self.now.rows.items }
+        ensures { result ≡ row_of self.now v }
     {
-        self.winners[v as usize]
-    }
-
-    /// The choice at the vertex, if there is one.
-    pub fn choice(&self, v: u32) -> Option<u32>
-        requires { v < length self.now.choices.items }
-        ensures { result ≡ choices_of self.now v }
-    {
-        self.choices[v as usize]
+        self.rows[v as usize]
     }
 
     /// Writes the winner of the vertex, and the choice.
     pub fn write(&mut self, v: u32, player: Player, choice: Option<u32>)
-        requires winner { v < length self.old.winners.items }
-        requires choice { v < length self.old.choices.items }
-        ensures winners { length self.new.winners.items ≡ length self.old.winners.items }
-        ensures choices { length self.new.choices.items ≡ length self.old.choices.items }
+        requires { v < length self.old.rows.items }
+        ensures size { length self.new.rows.items ≡ length self.old.rows.items }
         ensures winner { winners_of self.new v ≡ player }
         ensures choice { choices_of self.new v ≡ choice }
         ensures elsewhere { (w : ℕ) → w ≢ v → SameAt self.old self.new w }
     {
-        self.winners[v as usize] = player;
-        self.choices[v as usize] = choice;
+        self.rows[v as usize] = (player, choice);
     }
 }
 

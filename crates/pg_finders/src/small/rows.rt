@@ -116,9 +116,8 @@ impl Chosen {
         ensures { self.new ≡ slice_set self.old at ((row_at self.old at).0, choice) }
     {
         let v = self.row(at).0;
-        // for the proof: the place is one of the array
-        let _len = self.len;
-        self.rows[at] = (v, choice);
+        let rows = &mut self.rows;
+        rows[at] = (v, choice);
     }
 
     /// Keeps only the first vertices.
@@ -134,9 +133,8 @@ impl Chosen {
         requires { at < length self.now }
         ensures { result ≡ row_at self.now at }
     {
-        // for the proof: the place is one of the array
-        let _len = self.len;
-        self.rows[at]
+        let rows = &self.rows;
+        rows[at]
     }
 
     /// The same, by a look at each row.

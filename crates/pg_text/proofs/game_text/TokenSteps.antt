@@ -1,6 +1,6 @@
 -- What is known of a game text goes on, a token at a time.
 use Rattle.pg_text.proofs.Common.{◌≡◌, ℕ, ◌<◌, Bool, true, List, [], ◌∷◌, ◌++◌, length, refl, sym, ◌∙◌, ap, subst, rules, arith, append_assoc, append-nil}
-use Rattle.pg_text.proofs.Common.{codes, map-append, length-append, flat_map, IfSome, Player, Even, Spec, Token, Number, Word, Name, Comma, Semicolon}
+use Rattle.pg_text.proofs.Common.{codes, map-append, length-append, flat_map, IfSome, Player, Even, Spec, Token, TokenKind, kind_of, Number, Word, Name, Comma, Semicolon}
 use Rattle.pg_text.proofs.Common.{WrittenGameLine, separated, name_tokens, game_line_tokens, game_tokens, IsGameText, IsBeforeOwner}
 use Rattle.pg_text.proofs.Common.{BeginsGameText, IsSomeGameText}
 use Rattle.std.proofs.Common.{Option, Some, None}
@@ -8,12 +8,11 @@ use Rattle.std.proofs.lemmas.Grind.{flat_map-append}
 use Rattle.pg_game.proofs.SpecificationLists.{spec_of as spec}
 use Rattle.pg_text.specs.GameText.{headed}
 use Rattle.pg_text.specs.declared.reader.State.{State}
-use Rattle.pg_text.specs.declared.reader.Symbol.{Symbol}
-use Rattle.pg_text.specs.declared.reader.Symbol.TheVariants as symbol
+use Rattle.pg_text.specs.declared.lexer.TokenKind.TheVariants as kind
 use Rattle.pg_text.specs.declared.reader.State.TheVariants.{Start, HeadWord, HeadNumber, Headed, StartWord, StartNumber, Started, Ready, Id, Priority, Player as Owner}
 use Rattle.pg_text.specs.declared.reader.State.TheVariants.{Listing, Vertex, Named}
 use Rattle.pg_text.specs.private.GameReads.{AreNonempty, IsWhole, AreOwners, AreLines, begun, Leads, Agrees, SaysSpecs}
-use Rattle.pg_text.specs.private.Machine.{symbol_of, number_of, run, Read, Stops}
+use Rattle.pg_text.specs.private.Machine.{number_of, run, Read, Stops}
 use Rattle.pg_text.specs.private.Tables.{game_table as table}
 use Rattle.pg_game.proofs.AllElements.{all-push}
 use Rattle.pg_text.proofs.laws.UniqueGameLines.{line}
@@ -87,7 +86,7 @@ closed done lines l w h e = subst (λ us. IsGameText us (lines ++ l ∷ [])) (sy
 
 -- one more token
 pub leads_on : (from : State) (t : Token) (ts : List Token) (lines : List WrittenGameLine) (l : WrittenGameLine) → Leads from ts lines l
-    → IfSome (table from (symbol_of t)) (λ to. Leads to (ts ++ t ∷ []) (lines_after to l lines) (part_after to t l))
+    → IfSome (table from (kind_of t)) (λ to. Leads to (ts ++ t ∷ []) (lines_after to l lines) (part_after to t l))
 leads_on Start (Number n) ts lines l h = (ts, heads None None h.0 h.1, tt, refl)
 leads_on HeadWord (Number n) ts lines l h = (n, ap (λ us. us ++ Number n ∷ []) h.0, h.1)
 leads_on HeadNumber Semicolon ts lines l h = (h.0, ap (λ us. us ++ Semicolon ∷ []) h.1, h.2)
@@ -152,11 +151,11 @@ begins Listing ts lines l (done, w, b, e) =
 begins Vertex ts lines l (done, w, b, e) = begins_line l (begun Vertex l) (Semicolon ∷ []) w b.0 e (search (rules, b.1))
 begins Named ts lines l (done, w, b, e) = begins_line l (begun Named l) (Semicolon ∷ []) w b e (search (rules, append_assoc))
 
-pub other_symbol : (s : State) (x : Symbol) → (x ≡ symbol.Number → ⊥) → (x ≡ symbol.Parity → ⊥) → (x ≡ symbol.Start → ⊥) → (x ≡ symbol.Name → ⊥)
-    → (x ≡ symbol.Comma → ⊥) → (x ≡ symbol.Semicolon → ⊥) → table s x ≡ None
-other_symbol x0 x1 a b c d e f = search (rules)
+pub other_kind : (s : State) (k : TokenKind) → ((n : ℕ) → k ≡ kind.Number n → ⊥) → (k ≡ kind.Parity → ⊥) → (k ≡ kind.Start → ⊥) → (k ≡ kind.Name → ⊥)
+    → (k ≡ kind.Comma → ⊥) → (k ≡ kind.Semicolon → ⊥) → table s k ≡ None
+other_kind x0 x1 a b c d e f = search (rules)
 
-owner_next : (s : State) (x : Symbol) → table s x ≡ Some Owner → s ≡ Priority
+owner_next : (s : State) (k : TokenKind) → table s k ≡ Some Owner → s ≡ Priority
 owner_next x0 x1 e = search (rules)
 
 -- a line was closed
@@ -179,11 +178,11 @@ module _ {sound : Bool} {ts : List Token} {s : State} {Holds : List WrittenGameL
   text_begins : BeginsGameText ts
   text_begins = begins s ts k.lines k.part k.leads
 
-  pub stops : (t : Token) → table s (symbol_of t) ≡ None → Stops BeginsGameText ts t
+  pub stops : (t : Token) → table s (kind_of t) ≡ None → Stops BeginsGameText ts t
   stops t e =
       stops_at k {Begins = BeginsGameText} {IsText = IsSomeGameText} (λ us (more, lines, i). (more, (lines, i))) (λ us i. (Ready, accepts us i)) t e text_begins
 
-  pub on : (t : Token) {to : State} (q : State) {Later : List WrittenGameLine → WrittenGameLine → Type 0} → to ≡ q → table s (symbol_of t) ≡ Some to
+  pub on : (t : Token) {to : State} (q : State) {Later : List WrittenGameLine → WrittenGameLine → Type 0} → to ≡ q → table s (kind_of t) ≡ Some to
       → (sound ≡ true → Holds k.lines k.part → Later (lines_after q k.part k.lines) (part_after q t k.part)) → Read table Leads sound (ts ++ t ∷ []) to Later
   on t q is e a = goes_on k part_after leads_on t q is e a
 
@@ -199,9 +198,9 @@ module _ {sound : Bool} {ts : List Token} {s : State} {Holds : List WrittenGameL
   pub says : {specs : List Spec} → sound ≡ true → (Holds k.lines k.part → AreLines specs k.lines) → IsSomeGameText ts → SaysSpecs ts specs
   says u a i = (k.lines, leads_in k (is_ready i), a (k.agrees u))
 
-  pub before_owner : (x : Symbol) → AreOwners k.lines → table s x ≡ Some Owner → IsBeforeOwner ts
-  before_owner x o e =
-      let (done, w, b, f) = leads_in k (owner_next s x e) in
+  pub before_owner : (j : TokenKind) → AreOwners k.lines → table s j ≡ Some Owner → IsBeforeOwner ts
+  before_owner j o e =
+      let (done, w, b, f) = leads_in k (owner_next s j e) in
       record {
         header = w.header;
         start = w.start;

@@ -1,22 +1,35 @@
 -- The token at a place, from runs of bytes.
-use Rattle.pg_text.proofs.Common.{◌≡◌, ℕ, ◌+◌, ◌-◌, ◌<◌, ◌≤◌, zero, suc, true, false, List, [], ◌∷◌, ◌++◌, length, drop, take, get_or, refl, sym, ◌∙◌, ap}
+use Rattle.pg_text.proofs.Common.{◌≡◌, ℕ, ◌+◌, ◌-◌, ◌<◌, ◌≤◌, zero, suc, Bool, true, false, List, [], ◌∷◌, ◌++◌, length, drop, take, get_or, refl, sym, ◌∙◌, ap}
 use Rattle.pg_text.proofs.Common.{subst, arith, ◌⊎◌, append_assoc, length-append, rules, Some, eqb-true, false_from_ne_true, drop_more, take-append-drop}
-use Rattle.pg_text.proofs.Common.{Kind, Token, Number, Word, Name, Comma, Semicolon, IsSpelling, IsWhole, is_blank, is_digit, is_letter, is_no_quote}
+use Rattle.pg_text.proofs.Common.{TokenKind, Token, Number, Word, Name, IsSpelling, IsWhole, is_blank, is_digit, value_of, is_letter, is_no_quote}
 use Rattle.pg_text.proofs.Common.{begins_token, AllAre, EndsRun, IsRun, IsToken, IsNoToken, IsLexemeOf}
 use Rattle.std.proofs.Common.{length-drop}
 use Rattle.memchr.specs.Find.{IsFirstByte, is_byte}
 use Rattle.std.specs.Prelude.{not, ◌≢◌}
 use Rattle.std.proofs.lemmas.Bool.{ne_eqb}
-use Rattle.std.proofs.lemmas.List.{take_all, drop-drop, length-take-le, take_at, drop_at}
+use Rattle.std.proofs.lemmas.List.{take_all, drop-drop, length-take-le, take_at}
 use Rattle.pg_text.specs.Bytes.{is_quote}
+use Rattle.pg_text.specs.private.Lexeme.{word_kind, IsWholeNumber}
 use Rattle.pg_text.proofs.lexer.ByteRuns.{AllAre-append}
-use Rattle.pg_text.specs.declared.lexer.Kind.TheVariants as kind
+use Rattle.pg_text.proofs.reader.Machine.{word_cases}
+use Rattle.pg_text.specs.declared.lexer.TokenKind.TheVariants as kind
 
 module _ (text : List ℕ) (from : ℕ) (inside : from < length text) where
   -- a body that begins here is a token
   from_body : (t : Token) (to : ℕ) (body : List ℕ) → drop from text ≡ body ++ drop to text → to ≡ from + length body → IsSpelling t body
       → IsWhole t (drop to text) → IsToken text from from to t
   from_body t to body e n s w = grind (arith)
+
+  -- a token of one byte
+  pub byte_at : (t : Token) {b : ℕ} → get_or text from 0 ≡ b → IsSpelling t (b ∷ []) → IsWhole t (drop (from + 1) text) → IsToken text from from (from + 1) t
+  byte_at t {b} e s w = from_body t (from + 1) (b ∷ []) (drop_more text from 0 inside ∙ ap (λ a. a ∷ drop (from + 1) text) e) refl s w
+
+  pub number_at : {to value : ℕ} → IsWholeNumber text from to value → is_digit (get_or text from 0) ≡ true
+      → IsLexemeOf (kind.Number value) text from from to
+  number_at {to} n d =
+      let (run, r, e) = n.run in
+      let i = from_body (Number (value_of run)) to run r.split r.end (search (rules, drop_more), r.passes, refl) n.ends in
+      (Number (value_of run), i, ap (λ v. kind.Number v) e)
 
   pub word_at : (to : ℕ) (run : List ℕ) → IsRun is_letter text from to run → is_letter (get_or text from 0) ≡ true → EndsRun is_letter (drop to text)
       → IsToken text from from to (Word run)
@@ -38,6 +51,13 @@ module _ (text : List ℕ) (from : ℕ) (inside : from < length text) where
   pub name_at : (inner : List ℕ) (to : ℕ) → get_or text from 0 ≡ 34 → AllAre is_no_quote inner → drop (from + 1) text ≡ inner ++ 34 ∷ drop to text
       → to ≡ from + length inner + 2 → IsToken text from from to (Name inner)
   name_at inner to q p e n = search (rules, from_body, drop_more, append_assoc, length-append)
+
+-- a word is a lexeme of its kind
+pub word_lexeme : {text : List ℕ} {at from to : ℕ} (letters : List ℕ) → IsToken text at from to (Word letters)
+    → IsLexemeOf (word_kind letters) text at from to
+word_lexeme {text} {at} {from} {to} letters i =
+    word_cases letters (λ k. k ≡ word_kind letters → IsLexemeOf k text at from to) (λ e f. (Word letters, i, f)) (λ e f. (Word letters, i, f))
+    (λ e f. (Word letters, i, f)) (λ f. (Word letters, i, f)) refl
 
 -- no quote among the first bytes
 pub plain_front : (hay : List ℕ) (k : ℕ) → ((j : ℕ) → j < k → is_quote (get_or hay j 0) ≡ true → ⊥) → AllAre is_no_quote (take k hay)
@@ -71,13 +91,8 @@ token_past text at from end to run t r i = record {
   end = let f = length-append run i.blanks in let p = i.end in let q = r.end in omega arith;
 }
 
-pub lexeme_past : (k : Kind) (text : List ℕ) (at from end to : ℕ) (run : List ℕ) → IsRun is_blank text at from run → IsLexemeOf k text from end to
+pub lexeme_past : (k : TokenKind) (text : List ℕ) (at from end to : ℕ) (run : List ℕ) → IsRun is_blank text at from run → IsLexemeOf k text from end to
     → IsLexemeOf k text at end to
-lexeme_past (kind.Number value) text at from end to run r (n, e, i) = (n, e, token_past text at from end to run (Number n) r i)
-lexeme_past kind.Word text at from end to run r (n, i) = (n, token_past text at from end to run (Word n) r i)
-lexeme_past kind.Name text at from end to run r (n, i) = (n, token_past text at from end to run (Name n) r i)
-lexeme_past kind.Comma text at from end to run r i = token_past text at from end to run Comma r i
-lexeme_past kind.Semicolon text at from end to run r i = token_past text at from end to run Semicolon r i
 lexeme_past kind.End text at from end to run r i = subst (AllAre is_blank) (sym r.split) (AllAre-append is_blank run (drop from text) r.passes i)
 lexeme_past kind.Invalid text at from end to run r i = record {
   blanks = run ++ i.blanks;
@@ -89,6 +104,7 @@ lexeme_past kind.Invalid text at from end to run r i = record {
   solid = i.solid;
   wrong = i.wrong;
 }
+lexeme_past k text at from end to run r (t, i, e) = (t, token_past text at from end to run t r i, e)
 
 -- it ends after the place, and within the text
 pub token_ahead : (text : List ℕ) (at from to : ℕ) (t : Token) → IsToken text at from to t → (at < to) × (at ≤ length text → to ≤ length text)
@@ -123,11 +139,7 @@ name_found text hay from more h q e f =
 pub begins_none : (b : ℕ) → is_digit b ≡ false → is_letter b ≡ false → b ≢ 34 → b ≢ 44 → b ≢ 59 → begins_token b ≡ false
 begins_none b d l q c s = search (rules, ne_eqb)
 
--- the bytes between the places of a word are its letters
-pub word_bytes : (text : List ℕ) (at from to : ℕ) (letters : List ℕ) → IsToken text at from to (Word letters) → take (to - from) (drop from text) ≡ letters
-word_bytes text at from to letters i =
-    let e : drop from text ≡ i.body ++ drop to text =
-    ap (λ n. drop n text) i.begins.placed ∙ (sym (drop-drop (length i.blanks) at text)
-    ∙ (ap (drop (length i.blanks)) i.begins.split ∙ drop_at i.blanks (i.body ++ drop to text) (length i.blanks) refl)) in
-    let n : to - from ≡ length i.body = let p = i.begins.placed in let q = i.end in omega arith in
-    ap (take (to - from)) e ∙ (take_at i.body (drop to text) (to - from) (sym n) ∙ sym i.begins.spelled.2)
+-- the bytes between the places are the run
+pub run_bytes : {test : ℕ → Bool} {text : List ℕ} {from to : ℕ} {run : List ℕ} → IsRun test text from to run → take (to - from) (drop from text) ≡ run
+run_bytes {text = text} {from} {to} {run} r =
+    ap (take (to - from)) r.split ∙ take_at run (drop to text) (to - from) (let q = r.end in omega arith)

@@ -1,10 +1,10 @@
 -- Tokens that follow one another.
 use Rattle.pg_text.proofs.Common.{◌≡◌, ℕ, ◌+◌, List, [], ◌∷◌, ◌++◌, length, drop, refl, sym, ◌∙◌, ap, subst, arith, append_assoc, length-append, rules}
-use Rattle.pg_text.proofs.Common.{Kind, Token, IsWhole, Placed, Begins, Spells, is_blank, AllAre, IsLexicalFault, placed, IsToken, IsNoToken}
-use Rattle.pg_text.proofs.Common.{IsLexemeOf, ReadsTo, IsBadFrom, append-nil}
+use Rattle.pg_text.proofs.Common.{TokenKind, Token, IsWhole, Placed, Begins, Spells, is_blank, AllAre, IsLexicalFault, placed, IsToken, IsNoToken}
+use Rattle.pg_text.proofs.Common.{IsLexemeOf, kind_of, ReadsTo, IsBadFrom, append-nil}
 use Rattle.pg_text.specs.private.Lexeme.{IsNextLexeme}
 use Rattle.pg_text.specs.declared.lexer.Lexeme.{Lexeme}
-use Rattle.pg_text.specs.declared.lexer.Kind.TheVariants as kind
+use Rattle.pg_text.specs.declared.lexer.TokenKind.TheVariants as kind
 
 pub reaches_more : (text : List ℕ) (at mid from to : ℕ) (ts : List Placed) (t : Token) → ReadsTo text at ts mid → IsToken text mid from to t
     → ReadsTo text at (ts ++ placed t from ∷ []) to
@@ -50,8 +50,8 @@ pub later_fault : (text : List ℕ) (ts : List Placed) (at bad : ℕ) → ReadsT
 later_fault text ts at bad r (us, stop, s, n) = lexical_fault text (ts ++ us) stop bad (reaches_all text 0 at stop ts us r s) n
 
 -- a lexeme that is neither the end nor a fault is a token
-pub lexeme_token : (k : Kind) (text : List ℕ) (at from to : ℕ) → IsLexemeOf k text at from to → (k ≡ kind.Invalid → ⊥) → (k ≡ kind.End → ⊥)
-    → (t : Token) × IsToken text at from to t
+pub lexeme_token : (k : TokenKind) (text : List ℕ) (at from to : ℕ) → IsLexemeOf k text at from to → (k ≡ kind.Invalid → ⊥) → (k ≡ kind.End → ⊥)
+    → (t : Token) × IsToken text at from to t × (k ≡ kind_of t)
 lexeme_token x0 text at from to i b d = search (rules)
 
 -- where only blanks follow
@@ -59,5 +59,5 @@ pub reaches_end : (text : List ℕ) (at to : ℕ) (ts : List Placed) → ReadsTo
 reaches_end text at to ts r b = subst (λ us. Spells at (drop at text) us) (append-nil ts) (reaches_spells text at to ts [] r b)
 
 -- what a lexeme of this kind says
-pub of_kind : (k : Kind) (text : List ℕ) (at : ℕ) (p : Lexeme) → p.kind ≡ k → IsNextLexeme text at p → IsLexemeOf k text at p.from p.to
-of_kind k text at p e n = subst (λ (j : Kind). IsLexemeOf j text at p.from p.to) e n
+pub of_kind : (k : TokenKind) (text : List ℕ) (at : ℕ) (p : Lexeme) → p.kind ≡ k → IsNextLexeme text at p → IsLexemeOf k text at p.from p.to
+of_kind k text at p e n = subst (λ (j : TokenKind). IsLexemeOf j text at p.from p.to) e n

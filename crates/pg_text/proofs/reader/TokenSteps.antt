@@ -30,7 +30,7 @@ module _ {R : Type 0} {Reads : Bool → List Token → State → R → Type 0} {
     {large wrong : Option ℕ} (k : Keeps Reads IsBefore ts state old large wrong)
     (weaker : (sound later : Bool) (ts : List Token) (s : State) (it : R) → (later ≡ true → sound ≡ true) → Reads sound ts s it → Reads later ts s it) where
   -- the token was read
-  pub token_kept : {place small : ℕ} {later : Option ℕ} (t : Token) → IsTaken (number_of t) place large later small → (to : State) (new : R)
+  pub token_kept : {place small : ℕ} {later : Option ℕ} (t : Token) → IsTaken t place large later small → (to : State) (new : R)
       → ((sound : Bool) (us : List Token) → Reads sound us state old → Enters Reads IsBefore sound us t to new small)
       → Keeps Reads IsBefore (ts ++ placed t place ∷ []) to new later (first_at wrong (wrong_in to small) place)
   token_kept {place} {small} {later} t taken to new enters =
@@ -42,7 +42,7 @@ module _ {R : Type 0} {Reads : Bool → List Token → State → R → Type 0} {
             let (l, w) = both_none later wrong' u in
             let v = (none_known wrong (wrong_in to small) place w).1 in
             ((taken_none taken l).1, player_right to small v)));
-        numbers = taken_large taken t ts refl k.numbers;
+        numbers = taken_large taken ts k.numbers;
         players = λ l.
             let (m, v) = taken_none taken l in
             first_player-token IsBefore ts wrong (wrong_in to small) t place (k.players m)

@@ -1,17 +1,16 @@
 -- What is known of a solution text goes on, a token at a time.
 use Rattle.pg_text.proofs.Common.{◌≡◌, ℕ, zero, suc, ◌<◌, ◌≤◌, Bool, true, List, [], ◌∷◌, ◌++◌, refl, sym, ◌∙◌, ap, subst, arith, rules, map, flat_map}
-use Rattle.pg_text.proofs.Common.{append_assoc, append-nil, IfSome, Player, digit_of, SolutionLine, Token, Number, Word, Semicolon}
+use Rattle.pg_text.proofs.Common.{append_assoc, append-nil, IfSome, Player, digit_of, SolutionLine, Token, TokenKind, kind_of, Number, Word, Semicolon}
 use Rattle.pg_game.specs.Player.{of_digit}
 use Rattle.pg_text.proofs.Common.{WrittenSolutionLine, solution_tokens, IsSolutionText, IsBeforeWinner, BeginsSolutionText, IsSomeSolutionText, line_of, ◌⊎◌, inl, inr}
 use Rattle.std.proofs.Common.{Option, Some, None}
 use Rattle.std.proofs.lemmas.Grind.{flat_map-append}
 use Rattle.pg_text.specs.SolutionText.{solution_line_tokens}
 use Rattle.pg_text.specs.declared.reader.State.{State}
-use Rattle.pg_text.specs.declared.reader.Symbol.{Symbol}
-use Rattle.pg_text.specs.declared.reader.Symbol.TheVariants as symbol
+use Rattle.pg_text.specs.declared.lexer.TokenKind.TheVariants as kind
 use Rattle.pg_text.specs.declared.reader.State.TheVariants.{Start, HeadWord, HeadNumber, Headed, Ready, Id, Player as Winner, Vertex}
 use Rattle.pg_text.specs.private.SolutionReads.{AreWinners, begun, Leads, Agrees, SaysLines}
-use Rattle.pg_text.specs.private.Machine.{symbol_of, number_of, run, Read, Stops}
+use Rattle.pg_text.specs.private.Machine.{number_of, run, Read, Stops}
 use Rattle.pg_text.specs.private.Tables.{solution_table as table}
 use Rattle.pg_text.proofs.laws.ExclusiveFaults.{solution_begins}
 use Rattle.pg_text.proofs.reader.Machine.{lines_after, word_cases, pushed, leads_in, goes_on, stops_at}
@@ -54,7 +53,7 @@ closed done lines l (h, w) e = (h, e ∙ search (rules, h, w, flat_map-append, a
 
 -- one more token
 pub leads_on : (from : State) (t : Token) (ts : List Token) (lines : List WrittenSolutionLine) (l : WrittenSolutionLine) → Leads from ts lines l
-    → IfSome (table from (symbol_of t)) (λ to. Leads to (ts ++ t ∷ []) (lines_after to l lines) (part_after to t l))
+    → IfSome (table from (kind_of t)) (λ to. Leads to (ts ++ t ∷ []) (lines_after to l lines) (part_after to t l))
 leads_on Start (Number n) ts lines l h = (ts, (None, rw h.1 h.0), tt, refl)
 leads_on HeadWord (Number n) ts lines l h = (n, ap (λ us. us ++ Number n ∷ []) h.0, h.1)
 leads_on HeadNumber Semicolon ts lines l h = (Some h.0, rw h.2 (ap (λ us. us ++ Semicolon ∷ []) h.1))
@@ -87,10 +86,10 @@ begins Winner ts lines l (done, w, b, e) = begins_line lines l (begun Winner l) 
 begins Vertex ts lines l (done, w, b, e) = begins_line lines l (begun Vertex l) (Semicolon ∷ []) w e refl
 begins _ ts lines l h = absurd h.2
 
-pub other_symbol : (s : State) (x : Symbol) → (x ≡ symbol.Number → ⊥) → (x ≡ symbol.Paritysol → ⊥) → (x ≡ symbol.Semicolon → ⊥) → table s x ≡ None
-other_symbol x0 x1 a b c = search (rules)
+pub other_kind : (s : State) (k : TokenKind) → ((n : ℕ) → k ≡ kind.Number n → ⊥) → (k ≡ kind.Paritysol → ⊥) → (k ≡ kind.Semicolon → ⊥) → table s k ≡ None
+other_kind x0 x1 a b c = search (rules)
 
-winner_next : (s : State) (x : Symbol) → table s x ≡ Some Winner → s ≡ Id
+winner_next : (s : State) (k : TokenKind) → table s k ≡ Some Winner → s ≡ Id
 winner_next x0 x1 e = search (rules)
 
 digit_is : (n : ℕ) → n ≤ 1 → digit_of (of_digit n) ≡ n
@@ -114,12 +113,12 @@ module _ {sound : Bool} {ts : List Token} {s : State} {Holds : List WrittenSolut
   text_begins : BeginsSolutionText ts
   text_begins = begins s ts k.lines k.part k.leads
 
-  pub stops : (t : Token) → table s (symbol_of t) ≡ None → Stops BeginsSolutionText ts t
+  pub stops : (t : Token) → table s (kind_of t) ≡ None → Stops BeginsSolutionText ts t
   stops t e =
       stops_at k {Begins = BeginsSolutionText} {IsText = IsSomeSolutionText} (λ us (more, lines, i). (more, (lines, i)))
       (λ us i. let (q, r, last) = accepts us i in (q, r)) t e text_begins
 
-  pub on : (t : Token) {to : State} (q : State) {Later : List WrittenSolutionLine → WrittenSolutionLine → Type 0} → to ≡ q → table s (symbol_of t) ≡ Some to
+  pub on : (t : Token) {to : State} (q : State) {Later : List WrittenSolutionLine → WrittenSolutionLine → Type 0} → to ≡ q → table s (kind_of t) ≡ Some to
       → (sound ≡ true → Holds k.lines k.part → Later (lines_after q k.part k.lines) (part_after q t k.part)) → Read table Leads sound (ts ++ t ∷ []) to Later
   on t q is e a = goes_on k part_after leads_on t q is e a
 
@@ -141,9 +140,9 @@ module _ {sound : Bool} {ts : List Token} {s : State} {Holds : List WrittenSolut
       → SaysLines ts held
   says u a winners i = record { grammar = subst (λ ls. IsSolutionText ts ls) (sym (a (k.agrees u))) (text_in (last i)); winners = winners }
 
-  pub before_winner : (x : Symbol) → AreWinners k.lines → table s x ≡ Some Winner → IsBeforeWinner ts
-  before_winner x winners e =
-      let (done, (h, w), b, f) = leads_in k (winner_next s x e) in
+  pub before_winner : (j : TokenKind) → AreWinners k.lines → table s j ≡ Some Winner → IsBeforeWinner ts
+  before_winner j winners e =
+      let (done, (h, w), b, f) = leads_in k (winner_next s j e) in
       record { header = h; earlier = k.lines; id = k.part.id; winners = winners; tokens = f ∙ ap (λ us. us ++ begun Id k.part) w }
 
 pub reads_none : (held : List WrittenSolutionLine) (id winner : ℕ) (choice : Option ℕ) → held ≡ [] → id ≡ 0 → winner ≡ 0 → choice ≡ None

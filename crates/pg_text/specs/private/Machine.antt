@@ -1,23 +1,10 @@
--- The machine that reads tokens: a table says which state follows a state and a symbol.
-use Rattle.std.specs.Prelude.{ℕ, ◌≡◌, ◌<◌, Bool, true, false, cond, List, [], ◌∷◌, ◌++◌, codes, Option, Some, None, MatchOption}
-use Rattle.std.specs.Str.{bytes_eq}
+-- The machine that reads tokens: a table says which state follows a state and a token.
+use Rattle.std.specs.Prelude.{ℕ, ◌≡◌, ◌<◌, Bool, true, false, List, [], ◌∷◌, ◌++◌, Option, Some, None, MatchOption}
+use Rattle.pg_text.specs.declared.lexer.TokenKind.{TokenKind}
 use Rattle.pg_text.specs.declared.reader.State.{State}
 use Rattle.pg_text.specs.declared.reader.State.TheVariants as state
-use Rattle.pg_text.specs.declared.reader.Symbol.{Symbol}
-use Rattle.pg_text.specs.declared.reader.Symbol.TheVariants as symbol
-use Rattle.pg_text.specs.Token.{Token, Number, Word, Name, Comma, Semicolon}
-
-abbrev pub word_symbol : List ℕ → Symbol
-word_symbol letters =
-    cond (bytes_eq letters (codes "parity")) symbol.Parity
-    (cond (bytes_eq letters (codes "paritysol")) symbol.Paritysol (cond (bytes_eq letters (codes "start")) symbol.Start symbol.Unknown))
-
-abbrev pub symbol_of : Token → Symbol
-symbol_of (Number n) = symbol.Number
-symbol_of (Word letters) = word_symbol letters
-symbol_of (Name bytes) = symbol.Name
-symbol_of Comma = symbol.Comma
-symbol_of Semicolon = symbol.Semicolon
+use Rattle.pg_text.specs.Token.{Token, Number}
+use Rattle.pg_text.specs.private.Lexeme.{kind_of, value_in}
 
 -- the value of a number, and 0 of any other token
 abbrev pub number_of : Token → ℕ
@@ -25,13 +12,13 @@ number_of (Number n) = n
 number_of _ = 0
 
 abbrev pub Table : Type 0
-Table = State → Symbol → Option State
+Table = State → TokenKind → Option State
 
 -- the state after the tokens
 abbrev pub run : Table → Option State → List Token → Option State
 run table None ts = None
 run table (Some s) [] = Some s
-run table (Some s) (t ∷ ts) = run table (table s (symbol_of t)) ts
+run table (Some s) (t ∷ ts) = run table (table s (kind_of t)) ts
 
 abbrev pub TakenOr : Bool → Type 0 → Type 0 → Type 0
 TakenOr true A B = A
@@ -61,12 +48,12 @@ pub record Enters {R : Type 0} (Reads : Bool → List Token → State → R → 
   pub reads : (sound ≡ true → (value ≡ number_of t) × (to ≡ state.Player → value < 2)) → Reads sound (ts ++ t ∷ []) to new
   pub before : sound ≡ true → to ≡ state.Player → IsBefore ts
 
--- a token with this symbol leads to the next state; where there is none, it is not allowed
-abbrev pub Takes : {R : Type 0} → (Bool → List Token → State → R → Type 0) → (List Token → Type 0) → (List Token → Type 0) → R → R → State → Symbol → ℕ
+-- a token of this kind leads to the next state; where there is none, it is not allowed
+abbrev pub Takes : {R : Type 0} → (Bool → List Token → State → R → Type 0) → (List Token → Type 0) → (List Token → Type 0) → R → R → State → TokenKind
     → Option State → Type 0
-Takes Reads BeginsText IsBefore old new from symbol value next =
-    (sound : Bool) (ts : List Token) (t : Token) → symbol ≡ symbol_of t → Reads sound ts from old
-    → MatchOption next (Stops BeginsText ts t) (λ to. Enters Reads IsBefore sound ts t to new value)
+Takes Reads BeginsText IsBefore old new from kind next =
+    (sound : Bool) (ts : List Token) (t : Token) → kind ≡ kind_of t → Reads sound ts from old
+    → MatchOption next (Stops BeginsText ts t) (λ to. Enters Reads IsBefore sound ts t to new (value_in kind))
 
 -- the tokens are a text, or they only begin one
 abbrev pub IsComplete : (List Token → Type 0) → (List Token → Type 0) → List Token → Bool → Type 0

@@ -3,7 +3,6 @@ use Rattle.std.specs.Prelude.{ℕ, ◌≡◌, Bool, List, [], ◌∷◌, ◌++�
 use Rattle.std.specs.Option.{is_none}
 use Rattle.pg_text.specs.declared.fault.ParseFault.{ParseFault}
 use Rattle.pg_text.specs.declared.fault.ParseFault.TheVariants as fault
-use Rattle.pg_text.specs.declared.lexer.Kind.TheVariants as kind
 use Rattle.pg_text.specs.declared.lexer.Lexeme.{Lexeme}
 use Rattle.pg_text.specs.declared.reader.Reader.{Reader}
 use Rattle.pg_text.specs.declared.reader.State.{State}
@@ -11,7 +10,7 @@ use Rattle.pg_text.specs.Fault.{IsLexicalFault, IsSyntaxFault, IsNumberFault, Is
 use Rattle.pg_text.specs.Token.{Token, Placed, Spells, tokens_of}
 use Rattle.pg_text.specs.private.FirstFault.{placed, FirstLarge, FirstPlayer}
 use Rattle.pg_text.specs.private.Machine.{TakenOr, Stops}
-use Rattle.pg_text.specs.private.Lexeme.{IsToken, IsNextLexeme}
+use Rattle.pg_text.specs.private.Lexeme.{IsToken, kind_of}
 use Rattle.pg_text.specs.private.Reach.{ReadsTo}
 
 -- these tokens were read; their first faults are known, and without one the grammar holds what they say
@@ -24,18 +23,12 @@ pub record Keeps {R : Type 0} (Reads : Bool → List Token → State → R → T
 abbrev pub KeepsReader : {R : Type 0} → (Bool → List Token → State → R → Type 0) → (List Token → Type 0) → List Placed → Reader R → Type 0
 KeepsReader Reads IsBefore ts r = Keeps Reads IsBefore ts r.state r.grammar r.large r.wrong
 
--- the reader took the token at the place, or it is not expected
+-- the reader took the token that the lexeme is, or it is not expected
 abbrev pub ReaderTakes : {R : Type 0} → (Bool → List Token → State → R → Type 0) → (List Token → Type 0) → (List Token → Type 0) → Reader R → Reader R → Bool
-    → Token → ℕ → Type 0
-ReaderTakes Reads BeginsText IsBefore old new taken t place =
-    (ts : List Placed) → KeepsReader Reads IsBefore ts old
-    → TakenOr taken (KeepsReader Reads IsBefore (ts ++ placed t place ∷ []) new) (Stops BeginsText (tokens_of ts) t)
-
--- this holds of the token that the lexeme is, and of its place
-abbrev pub OfToken : (Token → ℕ → Type 0) → List ℕ → Lexeme → Type 0
-OfToken Holds text lexeme =
-    (at : ℕ) → IsNextLexeme text at lexeme → (lexeme.kind ≡ kind.End → ⊥) → (lexeme.kind ≡ kind.Invalid → ⊥)
-    → (t : Token) × IsToken text at lexeme.from lexeme.to t × Holds t lexeme.from
+    → Lexeme → Type 0
+ReaderTakes Reads BeginsText IsBefore old new taken lexeme =
+    (t : Token) (ts : List Placed) → lexeme.kind ≡ kind_of t → KeepsReader Reads IsBefore ts old
+    → TakenOr taken (KeepsReader Reads IsBefore (ts ++ placed t lexeme.from ∷ []) new) (Stops BeginsText (tokens_of ts) t)
 
 -- the token between the places is not expected after those before it
 pub record IsUnexpected (BeginsText : List Token → Type 0) (text : List ℕ) (from to : ℕ) : Type 0 where

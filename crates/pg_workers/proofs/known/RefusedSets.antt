@@ -1,6 +1,6 @@
 -- What the post of a known set is refused for names vertices of the game, and rows of the set.
 use Rattle.std.proofs.Common.{if◌then◌else◌, Contains}
-use Rattle.pg_workers.proofs.Common.{rules, ℕ, ◌<◌, ◌≤◌, inl, inr, List, [], ◌∷◌, length, ap, subst, Player, Graph, KnownRows, ClaimRows}
+use Rattle.pg_workers.proofs.Common.{rules, arith, ℕ, ◌<◌, inl, inr, List, [], ◌∷◌, length, ap, subst, Player, Graph, KnownRows, ClaimRows}
 use Rattle.pg_workers.proofs.Common.{known_rows, IsSolveFault, Refusal, state_of}
 use Rattle.pg_game.proofs.Members.{Contains-one}
 use Rattle.pg_text.proofs.Exact.{edge_below}
@@ -13,7 +13,6 @@ use Rattle.pg_board.proofs.Common.{owner_of, rest_of, same_player}
 use Rattle.pg_board.proofs.RestIsGood.{in_rest, kept_rest}
 use Rattle.pg_board.specs.declared.journal.Refusal.TheVariants as refusal
 use Rattle.pg_workers.specs.declared.known.SolveFault.TheVariants as solving
-use Rattle.pg_workers.proofs.KnownSets.{region_of_none}
 
 -- a walk begins with an edge
 first_edge : (Edge : ℕ → ℕ → Type 0) (v : ℕ) (ws : List ℕ) (end : ℕ) → Walk Edge v ws end → (w : ℕ) × Edge v w
@@ -47,7 +46,7 @@ pub cycle_below : (g : Graph) (game : IsGame g) (p : Player) (rows : ClaimRows) 
 cycle_below g game p rows v (shape, least) = search (rules, first_edge, named_below)
 
 -- what the post of a player's known set was refused for
-module _ (g : Graph) (game : IsGame g) (known : KnownRows) (sized : length known ≤ length g) (p : Player) where
+module _ (g : Graph) (game : IsGame g) (known : KnownRows) (p : Player) where
   abbrev rows_of : ClaimRows
   rows_of = known_rows g known p
 
@@ -56,7 +55,7 @@ module _ (g : Graph) (game : IsGame g) (known : KnownRows) (sized : length known
 
   pub row_inside : (i : ℕ) → RefusedFor (refusal.Claim (Shape i)) → i < length rows_of
   row_inside i post = elim post.refused.refused.0 [
-    | inl none ↦ absurd (post.refused.no_region (region_of_none g game known sized p (ap length none.0)))
+    | inl none ↦ absurd (let empty = ap length none.0 in omega (arith, post.refused.nonempty, empty))
     | inr first ↦ first.0
   ]
 

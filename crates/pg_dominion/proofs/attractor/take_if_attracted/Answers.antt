@@ -9,7 +9,7 @@ returns-then-find_way_out-clause-settled g c = λ i.
     let o : owner_of c.args.game.now c.args.from ≢ c.args.player = search rules in
     let h = c.find_way_out.ensures.out c.if-find_way_out.true in
     let xs = c.args.list.now.items in
-    inr (
+    inr (inr (
       o,
       (
         h.0,
@@ -20,7 +20,7 @@ returns-then-find_way_out-clause-settled g c = λ i.
             let w = h.2 in
             cc (f, w))),
       ),
-    )
+    ))
 
 pub returns-clause-takes : goal.returns-clause-takes
 returns-clause-takes g c =

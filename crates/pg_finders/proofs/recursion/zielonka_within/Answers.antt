@@ -3,7 +3,7 @@ use Rattle.pg_finders.proofs.Common.{how_many, steps, arith, Graph, length, prio
 use Rattle.std.specs.Option.{IsSome}
 use Rattle.std.proofs.lemmas.Result.{IfOk-weaker}
 use Rattle.pg_finders.specs.Steps.{work, gone_from}
-use Rattle.pg_finders.specs.private.recursion.SolverState.{number_left}
+use Rattle.pg_finders.specs.private.recursion.Solver.{number_left}
 use Rattle.pg_finders.specs.declared.recursion.Solved.{Solved}
 use Rattle.pg_finders.specs.declared.recursion.Solver.{Solver}
 use Rattle.pg_finders.proofs.Sets.{no_both}

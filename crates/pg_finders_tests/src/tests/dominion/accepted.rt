@@ -5,7 +5,7 @@ ghost use Rattle.std.specs.Prelude.{◌≡◌, ◌≤◌, length};
 
 use crate::tests::asserting::made;
 use crate::tests::dominion::games::Hostile;
-use crate::tests::dominion::kept::{least_bad, odd_vertices};
+use crate::tests::dominion::kept::{least_on_cycle, odd_vertices};
 use pg_game::{Game, Mask};
 use pg_test_support::{Draft, Random, check_eq};
 use std::alloc::Global;
@@ -45,7 +45,7 @@ fn add_part(
 ) {
     let first = draft.len();
     hostile.add(rt, alloc, draft);
-    let answer = match least_bad_odd(rt, alloc, &hostile.game(rt, alloc)) {
+    let answer = match least_odd_on_cycle(rt, alloc, &hostile.game(rt, alloc)) {
         Some(v) => Some(v.saturating_add(first)),
         None => None,
     };
@@ -53,8 +53,8 @@ fn add_part(
 }
 
 /// The least vertex of Odd's parity on a bad closed walk of all edges.
-fn least_bad_odd(rt: &impl Abort, alloc: Global, game: &Game) -> Option<u32> {
-    least_bad(rt, alloc, game, odd_vertices(rt, alloc, game))
+fn least_odd_on_cycle(rt: &impl Abort, alloc: Global, game: &Game) -> Option<u32> {
+    least_on_cycle(rt, alloc, game, odd_vertices(rt, alloc, game))
 }
 
 fn add_hostile(rt: &impl Abort, alloc: Global, draft: &mut Draft, parts: &mut Vec<Part>) {
@@ -117,7 +117,7 @@ fn compare_part(
     want: Option<u32>,
 ) {
     let bad = bad_vertices(rt, alloc, game, parts, chosen);
-    check_eq!(*rt; least_bad(rt, alloc, game, bad), want);
+    check_eq!(*rt; least_on_cycle(rt, alloc, game, bad), want);
 }
 
 /// No part has a bad closed walk, and then each hostile one that has an answer and each four-hundredth random
@@ -143,7 +143,7 @@ fn a_ranking_is_accepted_of_each_game_behind_a_long_ladder(rt: HostRuntime) {
 /// The least bad vertex of a long ladder with a turned level.
 fn compare_turned(rt: &impl Abort, alloc: Global, level: u32, want: u32) {
     let game = Hostile::Ladder(150_000, Some(level)).game(rt, alloc);
-    check_eq!(*rt; least_bad_odd(rt, alloc, &game), Some(want));
+    check_eq!(*rt; least_odd_on_cycle(rt, alloc, &game), Some(want));
 }
 
 #[test]

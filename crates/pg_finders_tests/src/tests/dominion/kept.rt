@@ -1,9 +1,9 @@
-//! The edges of a game as a `StrategyGraph`, and the least bad vertex that they have.
+//! The edges of a game as a `StrategyGraph`, and the least vertex on a bad cycle of them.
 
 ghost use Rattle.std.specs.Prelude.{◌≡◌, length, replicate, false};
 
 use crate::tests::asserting::made;
-use pg_dominion::{StrategyGraph, least_bad_vertex};
+use pg_dominion::{StrategyGraph, least_on_bad_cycle};
 use pg_game::{Game, Mask, Player};
 use pg_test_support::ODD;
 use std::alloc::Global;
@@ -48,10 +48,10 @@ fn all_edges<'g>(rt: &impl Abort, alloc: Global, game: &'g Game, bad: &Mask) -> 
     kept
 }
 
-/// The least bad vertex that is the greatest on a closed walk, where all edges are kept.
-pub fn least_bad(rt: &impl Abort, alloc: Global, game: &Game, bad: Mask) -> Option<u32>
+/// The least vertex on a bad cycle, where all edges are kept.
+pub fn least_on_cycle(rt: &impl Abort, alloc: Global, game: &Game, bad: Mask) -> Option<u32>
     requires { length bad ≡ length game.now }
 {
     let kept = all_edges(rt, alloc, game, &bad);
-    made(rt, least_bad_vertex(alloc, &kept))
+    made(rt, least_on_bad_cycle(alloc, &kept))
 }

@@ -5,7 +5,7 @@ ghost use Rattle.std.specs.Prelude.{◌≡◌, length};
 
 use crate::tests::asserting::made;
 use crate::tests::dominion::games::{Hostile, claim_of, game_made, mask_made};
-use crate::tests::dominion::kept::{least_bad, odd_vertices};
+use crate::tests::dominion::kept::{least_on_cycle, odd_vertices};
 use crate::tests::dominion::subgames::{is_subgame, is_within};
 use pg_dominion::{
     Checked, Claim, ClaimFault, SolutionFault, attract, check_claim, check_forward_solution,
@@ -204,10 +204,10 @@ fn vertices_are_attracted(rt: HostRuntime) {
 }
 
 #[test]
-fn the_least_bad_vertex_is_found(rt: HostRuntime) {
+fn the_least_vertex_on_a_bad_cycle_is_found(rt: HostRuntime) {
     let game = game_made(&rt, rt.alloc(), WINDING);
     let odd = odd_vertices(&rt, rt.alloc(), &game);
-    check_eq!(rt; least_bad(&rt, rt.alloc(), &game, odd), Some(2));
+    check_eq!(rt; least_on_cycle(&rt, rt.alloc(), &game, odd), Some(2));
 }
 
 /// Rows of this many vertices, without choices.

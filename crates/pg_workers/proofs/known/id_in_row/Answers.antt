@@ -7,8 +7,8 @@ use Rattle.pg_workers.proofs.known.id_in_row.Goals as goal
 
 pub returns-then-before-row : goal.returns-then-before-row
 returns-then-before-row c =
-    let g = c.args.of.now.game.now in
-    let known = c.args.of.now.known.now.rows in
+    let g = c.args.game.now in
+    let known = c.args.known.now.rows in
     let p = c.args.player in
     let member : known_of known p c.loop-v.v ≡ true = search rules in
     let inside : c.loop-v.v < length g = omega arith in

@@ -49,10 +49,7 @@ pub fn try_solved<R: Threads + Wait + Sync>(
     options: &Options,
     gate: &impl Gate,
     finder: &impl Finder,
-) -> Result<Outcome, SolveFault>
-    requires workers { (1 ≤ options.now.workers) × (options.now.workers ≤ 64) }
-    requires bound { options.now.bound ≤ 8 }
-{
+) -> Result<Outcome, SolveFault> {
     match read_known(alloc, game, b"") {
         Ok(nothing) => solve_game(rt, alloc, game, options, &nothing, gate, finder),
         Err(_) => Err(SolveFault::Memory),
@@ -67,15 +64,13 @@ pub fn solved<R: Threads + Wait + Abort + Sync>(
     options: &Options,
     gate: &impl Gate,
     finder: &impl Finder,
-) -> Outcome
-    requires workers { (1 ≤ options.now.workers) × (options.now.workers ≤ 64) }
-    requires bound { options.now.bound ≤ 8 }
-{
+) -> Outcome {
     try_solved(rt, alloc, game, options, gate, finder).expect(rt, "an outcome")
 }
 
 /// This many workers and the product's bounds.
 pub fn product(workers: u32) -> Options
+    requires { (1 ≤ workers) × (workers ≤ 64) }
     ensures { (result.workers ≡ workers) × (result.bound ≡ 4) }
 {
     Options {

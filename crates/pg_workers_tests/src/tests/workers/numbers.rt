@@ -8,7 +8,9 @@ use pg_test_support::{EVEN, ODD, check_eq};
 use pg_workers::Options;
 use std::process::Abort;
 
-fn with_bound(bound: u32) -> Options {
+fn with_bound(bound: u32) -> Options
+    requires { bound ≤ 8 }
+{
     Options {
         workers: 1,
         bound,
@@ -39,7 +41,7 @@ const TOTALS: &[(u32, u32, u64)] = &[
 ];
 
 fn compare_total(rt: &impl Abort, bound: u32, n: u32, want: u64) {
-    assert!(*rt; n <= 1_048_576);
+    assert!(*rt; n <= 1_048_576 && bound <= 8);
     check_eq!(*rt; with_bound(bound).total(n), want, n);
 }
 
@@ -71,7 +73,7 @@ const JOBS: &[(u32, u32, u64, Job)] = &[
 ];
 
 fn compare_job(rt: &impl Abort, bound: u32, n: u32, number: u64, want: Job) {
-    assert!(*rt; n <= 1_048_576);
+    assert!(*rt; n <= 1_048_576 && bound <= 8);
     check_eq!(*rt; job_of(&with_bound(bound), n, number), Some(want), n);
 }
 

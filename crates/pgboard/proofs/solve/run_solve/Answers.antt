@@ -92,5 +92,5 @@ returns-clause-writes g c =
     ] in
     let made = solved_from {K = g.row.K.Denot} g.K.Source.left c.args.known _ _ taken c.in_ok-game.ensures.is_game
     (g.I.Source.left c.args.input.now) c.args.options.now.winners c.in_ok-text.text.items c.in_ok-game.ensures.game
-    c.in_ok-solution.ensures.outcome.regions c.in_ok-text.ensures in
+    c.in_ok-solution.ensures.outcome.regions (c.in_ok-text.ensures _ c.in_ok-solution.ensures.outcome.kept) in
     search (rules, made, c.as_slice.ensures.value, c.write_all.ensures)

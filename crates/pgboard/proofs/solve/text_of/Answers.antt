@@ -10,8 +10,8 @@ pub write_solution-requires : goal.write_solution-requires
 write_solution-requires c = exact_rows _ _ c.requires.game c.requires.exact
 
 pub returns-then-winners : goal.returns-then-winners
-returns-then-winners c =
+returns-then-winners c = λ known kept.
     let winners : c.args.winners ≡ true = c.if-winners.true in
     IfOk-weaker c.write_winners.result _ _
-    (λ text is. subst (λ (b : Bool). IsSolveText b c.args.of.now.game.now c.args.of.now.known.now.rows text.items) (sym winners)
+    (λ text is. subst (λ (b : Bool). IsSolveText b c.args.game.now known text.items) (sym winners)
     (winners_text _ _ _ c.requires.exact is)) c.write_winners.ensures.text

@@ -8,7 +8,7 @@ invariant_of-result c =
       game = c.len-n.ensures.game;
       limits = c.len-n.ensures.limits;
       lawful = lawful_none c.args.game.now c.len-n.ensures.game;
-      regions = c.in_ok-open.ensures.regions;
+      regions = c.in_ok-open.ensures.regions c.args.game.now (sym c.len-n.ensures.number);
       state = c.in_ok-open.ensures.nothing;
       number_is = refl;
     })

@@ -3,7 +3,7 @@ use Rattle.pg_finders.proofs.Common.{Option, None, Some, AreFewer, HasStepped, n
 use Rattle.std.proofs.lemmas.List.{take_more}
 use Rattle.std.proofs.lemmas.Option.{slice_get_within, slice_get-get_or, get_or_from_slice_get}
 use Rattle.std.specs.List.{slice_get}
-use Rattle.pg_finders.specs.private.recursion.SolverState.{after_step}
+use Rattle.pg_finders.specs.private.recursion.Solver.{after_step}
 use Rattle.pg_finders.proofs.Sets.{no_both}
 use Rattle.pg_finders.proofs.recursion.LoopSteps.{open_levels_done}
 use Rattle.pg_finders.proofs.recursion.Solver.run.Goals as goal

@@ -6,7 +6,7 @@ invariant-steps l = record {
   running : IsSolverState l.view.game.now l.view.mask.now l.self;
   fewer : AreFewer l.initial.left l.left;
   spends : work l.view.game.now l.view.mask.now l.self + number_left l.initial.left ≤ work l.view.game.now l.view.mask.now l.fn.self + number_left l.left;
-  charged : (v : ℕ) → In (active_of l.fn.self.parts.subgame) v → HasStepped l.initial.left l.left ⊎ In (active_of l.self.parts.subgame) v;
+  charged : (v : ℕ) → In (active_of l.fn.self.partition.subgame) v → HasStepped l.initial.left l.left ⊎ In (active_of l.self.partition.subgame) v;
 }
 
 abbrev pub decreases-steps : goal.decreases-steps

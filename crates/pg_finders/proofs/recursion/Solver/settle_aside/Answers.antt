@@ -1,6 +1,6 @@
 use Rattle.pg_finders.proofs.Common.{◌≡◌, ◌-◌, ◌++◌, ◌∙◌, length, ap, refl, settled_of}
 use Rattle.pg_finders.specs.declared.recursion.Solver.{Solver}
-use Rattle.pg_finders.specs.private.recursion.Shrunk.{aside_of}
+use Rattle.pg_finders.specs.private.recursion.GoingBack.{aside_of}
 use Rattle.pg_finders.proofs.recursion.FinishedSubgame.{SettlesAside, finished, finished_fewer}
 use Rattle.pg_finders.proofs.recursion.LoopSteps.{last_popped}
 use Rattle.pg_finders.proofs.recursion.ShrunkSolver.{fits, aside_is, below, once, fresh}
@@ -17,17 +17,17 @@ is c = c.aside-aside.ensures ∙ ap (aside_of c.args.frame) c.deref.ensures.valu
 
 pub add_all-requires-clause-placed : goal.add_all-requires-clause-placed
 add_all-requires-clause-placed c =
-    (length c.args.view.now.game.now, c.requires.end.running.placed, below c.requires.end (c.args.frame.upto - c.args.frame.set_aside) (is c) refl)
+    (length c.args.view.now.game.now, c.requires.end.running.placed, below c.requires.end (c.args.frame.set_aside_upto - c.args.frame.set_aside_from) (is c) refl)
 
 pub add_all-requires-clause-once : goal.add_all-requires-clause-once
-add_all-requires-clause-once c = once c.requires.end (c.args.frame.upto - c.args.frame.set_aside) (is c)
+add_all-requires-clause-once c = once c.requires.end (c.args.frame.set_aside_upto - c.args.frame.set_aside_from) (is c)
 
 pub add_all-requires-clause-fresh : goal.add_all-requires-clause-fresh
 add_all-requires-clause-fresh c = fresh c.requires.end (is c)
 
 abbrev after : goal.After-pop → Solver
 after c = record c.args.self.now {
-  parts = record c.args.self.now.parts { settled = c.add_all.new.self };
+  partition = record c.args.self.now.partition { settled = c.add_all.new.self };
   set_aside = c.truncate.new.self;
   frames = c.pop.new.self;
 }
@@ -41,10 +41,10 @@ settles c =
       size = refl;
       frames = last_popped c.args.self.now.frames c.requires.end.before c.args.frame c.requires.end.last c.pop.ensures.rest;
       set_aside = c.truncate.ensures.items;
-      own = c.in_ok-add_all.ensures.own ∙ ap (λ xs. settled_of c.args.self.now.parts.settled c.args.frame.player ++ xs) (is_aside ∙ aside_is c.requires.end);
+      own = c.in_ok-add_all.ensures.own ∙ ap (λ xs. settled_of c.args.self.now.partition.settled c.args.frame.player ++ xs) (is_aside ∙ aside_is c.requires.end);
       other = c.in_ok-add_all.ensures.other;
       placed = c.in_ok-add_all.ensures.placed (length c.args.view.now.game.now) c.requires.end.running.placed
-          (below c.requires.end (c.args.frame.upto - c.args.frame.set_aside) is_aside refl);
+          (below c.requires.end (c.args.frame.set_aside_upto - c.args.frame.set_aside_from) is_aside refl);
     }
 
 pub returns-clause-running : goal.returns-clause-running

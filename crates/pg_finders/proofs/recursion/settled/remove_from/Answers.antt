@@ -1,8 +1,7 @@
 use Rattle.pg_finders.proofs.Common.{◌≡◌, ◌-◌, ◌<◌, ℕ, List, arith, length, slice_index_or, slice_set, subst, sym}
 use Rattle.pg_dominion.proofs.Common.{get_or_read}
 use Rattle.std.specs.List.{swap_remove}
-use Rattle.pg_finders.specs.private.recursion.Places.{HasPlaces}
-use Rattle.pg_finders.specs.private.recursion.Settled.{IsWithout}
+use Rattle.pg_finders.specs.private.recursion.Settled.{HasPlaces, IsWithout}
 use Rattle.pg_finders.proofs.recursion.PlacedLists.{place_from, removed_without, removed_other}
 use Rattle.pg_finders.proofs.recursion.RepeatedAttraction.{all_listed}
 use Rattle.pg_finders.proofs.recursion.settled.remove_from.Goals as goal

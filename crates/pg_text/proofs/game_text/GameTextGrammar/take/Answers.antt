@@ -2,7 +2,7 @@ use Rattle.pg_text.proofs.Common.{rules, refl, sym, ap, ◌∙◌}
 use Rattle.pg_text.specs.declared.reader.State.TheVariants as state
 use Rattle.pg_text.specs.private.Tables.{game_table}
 use Rattle.pg_text.proofs.reader.Machine.{entered}
-use Rattle.pg_text.proofs.game_text.TokenSteps.{on, one_line, stops, other_symbol, before_owner}
+use Rattle.pg_text.proofs.game_text.TokenSteps.{on, one_line, stops, other_kind, before_owner}
 use Rattle.pg_text.proofs.game_text.GameTextGrammar.take.Goals as goal
 
 pub returns-in-Number-Start : goal.returns-in-Number-Start
@@ -17,7 +17,7 @@ returns-in-Number-Priority c sound ts t x k = record {
       let w = v u in
       let l = w.1 refl in
       search (rules, c.of_digit-self.ensures.player, c.clear.ensures.specs, c.clear.ensures.successors));
-  before = λ u p. before_owner k c.args.symbol (k.agrees u).lines_are.1 (search rules);
+  before = λ u p. before_owner k c.args.kind (k.agrees u).lines_are.1 (search rules);
 }
 
 pub returns-in_ok-push-in-Number-Player : goal.returns-in_ok-push-in-Number-Player
@@ -75,4 +75,4 @@ returns-in_default-6 c sound ts t x k = stops k t (search rules)
 pub returns-in_default-7 : goal.returns-in_default-7
 returns-in_default-7 c sound ts t x k =
     let d = c.in_default in
-    stops k t (ap (game_table c.args.state) (sym x) ∙ other_symbol c.args.state c.args.symbol d.not-Number-0 d.not-Parity-0 d.not-Start-0 d.not-Name-0 d.not-Comma-0 d.not-Semicolon-0)
+    stops k t (ap (game_table c.args.state) (sym x) ∙ other_kind c.args.state c.args.kind d.not-Number-0 d.not-Parity-0 d.not-Start-0 d.not-Name-0 d.not-Comma-0 d.not-Semicolon-0)
