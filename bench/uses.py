@@ -1,5 +1,5 @@
 #!/usr/bin/env python3
-"""Writes the games that the worked uses of examples/ make of a random model or specification:
+"""Writes the games that the worked uses make of a random model or specification:
 `uses.py FOLDER NAME..`. A name is modelcheck_N or synthesise_N, of a game of about N vertices.
 """
 
@@ -7,11 +7,9 @@ import os
 import random
 import sys
 
-sys.path.append(os.path.join(os.path.dirname(os.path.abspath(__file__)), "..", "examples"))
+sys.path.append(os.path.join(os.path.dirname(os.path.abspath(__file__)), "..", "bindings", "python"))
 
-import modelcheck
-import synthesise
-from pgboard.command import write
+from pgboard.command import modelcheck, synthesise, write
 from pgboard.command.games import Game
 
 CONDITION = "Fin(5) & (Inf(4) | (Fin(3) & (Inf(2) | (Fin(1) & Inf(0)))))"

@@ -1,6 +1,6 @@
 """Tests of pgboard.Board, by unittest: what it takes, returns and refuses, its turns, its memory, and copies.
 
-What a board settles is tested in C, where a plain board replays what threads post (tests/embed.py).
+What a board settles is tested in C, where a plain board replays what threads post (tests/library/embed.py).
 """
 
 import copy
@@ -35,7 +35,7 @@ class Boards(Tests):
 
     def test_posts_and_all_that_can_be_read(self):
         board = pgboard.Board([0, 1, 0, 1, 0], [2, 1, 0, 1, 1], [[0, 1], [1], [0, 3], [2, 3], [0, 1]])
-        self.says("the number of unsettled vertices is 5", board.solution, error=pgboard.Unsettled)
+        self.raises(pgboard.Unsettled(5), board.solution)
         self.assertEqual(board.post(0, {0: 0}, worker=2**32 - 1), (0, 1, 3))
         self.assertEqual(board.state(), (array("B", [0, 255, 0, 255, 0]), array("I", [0, NONE, 0, NONE, 0])))
         self.assertEqual(board.post_arrays(1, array("q", [1]), [1], 7), (1, 1, 1))
@@ -55,17 +55,17 @@ class Boards(Tests):
             rows = (3, 2, 0, array("I", [0, 1])), (9, 1, 1, array("I", [1]))
             self.assertEqual((board.vertex(0), board.vertex(True)), rows)
             for v in (-1, 2, 2**32, 2**64):
-                self.says(f"{v} is no vertex", board.vertex, v, error=IndexError)
-            self.says("a vertex has to be an integer, not str", board.vertex, "0")
-            self.refused(pgboard.Unsettled, 2, 0, board.solution_text)
+                self.raises(IndexError(f"{v} is no vertex"), board.vertex, v)
+            self.raises(TypeError("a vertex has to be an integer, not str"), board.vertex, "0")
+            self.raises(pgboard.Unsettled(2), board.solution_text)
             self.assertEqual(board.post(1, {1: 1}), (0, 1, 1))
             board.finish()
             self.assertEqual(board.solution(), (array("B", [0, 1]), array("I", [0, 1])))
             self.assertEqual(board.solution_text(), "paritysol 9;\n3 0 3;\n9 1 9;\n")
         for call in (lambda: board.vertices, lambda: board.vertex(0), board.solution_text):
-            self.refused(pgboard.Closed, 0, 0, call)
-        self.refused(pgboard.NoToken, 6, 0, pgboard.Board.from_text, b"0 0 0 ?;")
-        self.says("a text is bytes or str, not list", pgboard.Board.from_text, [48])
+            self.raises(pgboard.Closed(), call)
+        self.raises(pgboard.NoToken(6), pgboard.Board.from_text, b"0 0 0 ?;")
+        self.raises(TypeError("a text is bytes or str, not list"), pgboard.Board.from_text, [48])
         # the longest rows
         last = 2**31 - 1
         texts = "".join(f"{last - v} {last} 1 {last - v};" for v in range(100)), "7 0 0 7;"
@@ -82,7 +82,7 @@ class Boards(Tests):
     def test_the_order_of_a_mapping_has_no_effect(self):
         board = pgboard.Board(*loops(3))
         self.assertEqual(board.post(0, {2: 2, 0: 0, 1: 1}), (0, 3, 3))
-        self.refused(pgboard.BadShape, 1, 0, pgboard.Board(*loops(3)).post_arrays, 0, [2, 0], [2, 0])
+        self.raises(pgboard.BadShape(1), pgboard.Board(*loops(3)).post_arrays, 0, [2, 0], [2, 0])
 
     def test_the_state_is_read_again_after_a_refused_read(self):
         class Refusing:
@@ -191,7 +191,7 @@ class Boards(Tests):
             lambda: board.finish(), lambda: board.solution(),
         ]  # fmt: skip
         for call in calls:
-            self.says("the board is closed", call, error=pgboard.Closed)
+            self.raises(pgboard.Closed(), call)
 
     def test_the_state_is_read_under_the_lock(self):
         owned, board = [], pgboard.Board(*TWO)
@@ -253,7 +253,7 @@ class Boards(Tests):
 
     def test_a_board_is_not_copied(self):
         for way in (copy.copy, copy.deepcopy, pickle.dumps):
-            self.says("a board can be neither copied nor pickled", way, pgboard.Board(*TWO))
+            self.raises(TypeError("a board can be neither copied nor pickled"), way, pgboard.Board(*TWO))
 
     def test_what_is_given_and_returned_is_a_copy(self):
         game, claim = [it[:] for it in CSR], [array("I", [1]), array("I", [1])]
@@ -283,61 +283,60 @@ class Boards(Tests):
 
     def test_numbers_and_types_that_are_refused(self):
         board, whole = pgboard.Board(*TWO), "has to be an integer, not"
-        for claim in (None, [(0, 0)], 5, "0"):
+        for claim in (None, [(0, 0)]):
             said = f"choices are a mapping from vertices, not {type(claim).__name__}"
-            self.says(said, board.post, 0, claim)
-        for claim in ({None: 0}, {"0": 0}, {0: "0"}, {0.5: 0}, {0: -0.5}, {0: float("nan")}, {0: [0]}):
+            self.raises(TypeError(said), board.post, 0, claim)
+        for claim in ({None: 0}, {"0": 0}, {0: "0"}, {0.5: 0}, {0: float("nan")}):
             with self.subTest(claim), self.assertRaises(TypeError):
                 board.post(0, claim)
         for wrong in (None, "0", 0.0):
             kind = type(wrong).__name__
-            self.says(f"player {whole} {kind}", board.post, wrong, {0: 0})
-            self.says(f"worker {whole} {kind}", board.post, 0, {0: 0}, worker=wrong)
-            for call in (board.winner, board.choice):
-                self.says(f"a vertex {whole} {kind}", call, wrong)
-        self.says(f"steps {whole} float", board.finish, 1.5)
-        for worker in (-1, 2**32, 2**64):
-            said = f"{{}}: {worker} is out of range".format
-            self.says(said("worker"), board.post, 0, {0: 0}, worker, error=ValueError)
-            self.says(said("player"), board.post, worker, {0: 0}, error=ValueError)
-            self.says(said(r"vertices\[0\]"), board.post, 0, {worker: 0}, error=ValueError)
-            self.says(said(r"choices\[0\]"), board.post, 0, {0: worker}, error=ValueError)
+            self.raises(TypeError(f"player {whole} {kind}"), board.post, wrong, {0: 0})
+            self.raises(TypeError(f"worker {whole} {kind}"), board.post, 0, {0: 0}, worker=wrong)
+            self.raises(TypeError(f"a vertex {whole} {kind}"), board.winner, wrong)
+        self.raises(TypeError(f"steps {whole} float"), board.finish, 1.5)
+        for wrong in (-1, 2**32, 2**64):
+            for name, player, claim, worker in (
+                ("worker", 0, {0: 0}, wrong),
+                ("player", wrong, {0: 0}, 0),
+                ("vertices[0]", 0, {wrong: 0}, 0),
+                ("choices[0]", 0, {0: wrong}, 0),
+            ):
+                self.raises(ValueError(f"{name}: {wrong} is out of range"), board.post, player, claim, worker)
         for v in (-1, 2, 2**32):
             for call in (board.winner, board.choice):
-                self.says(f"{v} is no vertex", call, v, error=IndexError)
-        for player in (2, 255, 2**32 - 1):
-            self.refused(pgboard.BadPlayer, player, 0, board.post, player, {0: 0})
-            self.refused(pgboard.BadPlayer, player, 0, board.post_arrays, player, b"", [1])
-        for far in (9, 256, 2**31, 2**32 - 2):
-            # (a vertex, a choice that the player needs, and one that he may not have)
+                self.raises(IndexError(f"{v} is no vertex"), call, v)
+        for player in (2, 2**32 - 1):
+            self.raises(pgboard.BadPlayer(player), board.post, player, {0: 0})
+        self.raises(pgboard.BadPlayer(255), board.post_arrays, 255, b"", [1])
+        # a vertex, a choice that the player needs, and one that he may not have
+        for far in (256, 2**32 - 2):
             for player, claim in ((0, {far: None}), (0, {0: far}), (1, {0: far})):
-                self.refused(pgboard.BadShape, 0, 0, board.post, player, claim)
+                self.raises(pgboard.BadShape(0), board.post, player, claim)
         self.assertEqual((board.settled, len(board.entries)), (0, 0))
 
     def test_refusals_have_places_and_texts(self):
         board = pgboard.Board([0, 1, 0, 1], [2, 1, 0, 1], [[0, 1], [1], [0, 3], [2, 3]])
-        shape = str(pgboard.BadShape(1))
-        self.assertTrue(shape.startswith("row 1: there is none, or its vertex is not in the game or "))
-        cycle = "its priority is the other player's, and the greatest on a closed walk in the claim"
-        opens = "a kept edge leads to 3, which is neither in the claim nor settled for its player"
-        first = [
-            (pgboard.BadShape, 1, 0, 0, {2: 3, 3: 2}, shape),
-            (pgboard.BadShape, 0, 0, 1, {}, str(pgboard.BadShape(0))),
-            (pgboard.ClaimCycle, 3, 0, 0, {2: 3, 3: None}, f"vertex 3: {cycle}"),
-            (pgboard.Open, 2, 3, 0, {2: 3}, f"vertex 2: {opens}"),
-        ]
-        second = [
-            (pgboard.Stale, 0, 0, 0, {0: 0}, "each vertex of the claim is settled for its player"),
-            (pgboard.Lost, 2, 0, 1, {2: None}, "vertex 2 is settled for the other player"),
-        ]
-        for rows in (first, second):
-            for fault, at, to, player, claim, text in rows:
-                self.refused(fault, at, to, board.post, player, claim)
-                self.says(text.replace("(", "\\("), board.post, player, claim, error=pgboard.RefusedClaim)
-            board.post(0, {0: 0}) if rows is first else None
-        self.refused(pgboard.BadClaimLengths, 2, 1, board.post_arrays, 0, [0, 1], [0])
-        said = "there are 2 vertices and 1 choices"
-        self.says(said, board.post_arrays, 0, [0, 1], [0], error=pgboard.RefusedClaim)
+        shape = "row 1: there is none, or its vertex is not in the game or "
+        cycle = "vertex 3: its priority is the other player's, and the greatest on a closed walk in the claim"
+        opens = "vertex 2: a kept edge leads to 3, which is neither in the claim nor settled for its player"
+        for fault, player, claim, said in (
+            (pgboard.BadShape(1), 0, {2: 3, 3: 2}, shape),
+            (pgboard.BadShape(0), 1, {}, ""),
+            (pgboard.ClaimCycle(3), 0, {2: 3, 3: None}, cycle),
+            (pgboard.Open(2, 3), 0, {2: 3}, opens),
+            (None, 0, {0: 0}, ""),
+            (pgboard.Stale(), 0, {0: 0}, "each vertex of the claim is settled for its player"),
+            (pgboard.Lost(2), 1, {2: None}, "vertex 2 is settled for the other player"),
+        ):
+            if fault:
+                self.assertTrue(isinstance(fault, pgboard.RefusedClaim) and str(fault).startswith(said), fault)
+                self.raises(fault, board.post, player, claim)
+            else:
+                board.post(player, claim)
+        lengths = pgboard.BadClaimLengths(2, 1)
+        self.raises(lengths, board.post_arrays, 0, [0, 1], [0])
+        self.assertEqual(str(lengths), "there are 2 vertices and 1 choices")
         self.assertTrue(issubclass(pgboard.RefusedClaim, pgboard.Refused))
 
     def test_entries_are_a_sequence(self):

@@ -1,6 +1,6 @@
 """Tests of Board.finish, by unittest: its slices, what it keeps where it is ended, and threads.
 
-What it finds is tested in C (tests/embed/advance.c).
+What it finds is tested in C (tests/library/embed/advance.c).
 """
 
 import itertools

@@ -1,6 +1,6 @@
 """Tests of the package pgboard, by unittest: what its calls take, return and refuse, on one or two vertices.
 
-What the library answers is tested in C (tests/embed). The other files test boards, long calls and
+What the library answers is tested in C (tests/library/embed). The other files test boards, long calls and
 the command.
 """
 
@@ -8,6 +8,7 @@ import ast
 import ctypes
 import ctypes.util
 import doctest
+import functools
 import gzip
 import itertools
 import os
@@ -25,7 +26,7 @@ from unittest import mock
 
 import pgboard
 
-sys.path.append(str(pathlib.Path(__file__).resolve().parent.parent.parent / "tests"))
+sys.path.append(str(pathlib.Path(__file__).resolve().parents[2] / "tests" / "lib"))
 import plain
 
 try:
@@ -72,10 +73,11 @@ def with_one(game, place, value):
 
 
 class Tests(unittest.TestCase):
-    def refused(self, fault, at, to, call, *arguments, **named):
-        with self.subTest(arguments), self.assertRaises(fault) as found:
+    def raises(self, wanted, call, *arguments, **named):
+        """That a call raises an exception of this type, with its text, or at the same places."""
+        with self.subTest(wanted=wanted, arguments=arguments), self.assertRaises(type(wanted)) as found:
             call(*arguments, **named)
-        self.assertEqual((found.exception.at, found.exception.to), (at, to))
+        self.assertEqual((type(found.exception), found.exception.args), (type(wanted), wanted.args))
 
     def begun(self, call):
         raised = []
@@ -90,120 +92,116 @@ class Tests(unittest.TestCase):
         thread.start()
         return thread, raised
 
-    def says(self, said, call, *arguments, error=TypeError, **named):
-        with self.subTest(said), self.assertRaisesRegex(error, f"^{said}$"):
-            call(*arguments, **named)
-
 
 class Arrays(Tests):
     # a game that is refused, and how
     GAMES = [
-        (pgboard.NoVertex, 0, 0, [], [], []),
-        (pgboard.BadLengths, 1, 0, [0], [0, 1], [[0]]),
-        (pgboard.BadLengths, 2, 0, [0, 0], [0, 1], [[0]]),
-        (pgboard.BadOwner, 1, 0, [0, 2], [0, 1], [[0], [0]]),
-        (pgboard.BadPriority, 1, 0, [0, 0], [0, 2**31], [[0], [0]]),
-        (pgboard.NoSuccessor, 1, 0, [0, 0], [0, 1], [[0], []]),
-        (pgboard.UnknownSuccessor, 1, 2, [0, 0], [0, 1], [[0], [2]]),
+        (pgboard.NoVertex(), [], [], []),
+        (pgboard.BadLengths(1), [0], [0, 1], [[0]]),
+        (pgboard.BadLengths(2), [0, 0], [0, 1], [[0]]),
+        (pgboard.BadOwner(1), [0, 2], [0, 1], [[0], [0]]),
+        (pgboard.BadPriority(1), [0, 0], [0, 2**31], [[0], [0]]),
+        (pgboard.NoSuccessor(1), [0, 0], [0, 1], [[0], []]),
+        (pgboard.UnknownSuccessor(1, 2), [0, 0], [0, 1], [[0], [2]]),
+    ]
+    # what TWO has no solution of, and what isn't known of it
+    SOLUTIONS = [
+        (pgboard.BadResults(5), [0, 1], [0]),
+        (pgboard.BadWinner(1), [0, None], [0, 1]),
+        (pgboard.NoChoice(0), [0, 1], [None, 1]),
+        (pgboard.BadChoice(0), [0, 1], [2**32 - 2, 1]),
+        (pgboard.Leaves(0, 1), [0, 1], [1, 1]),
+    ]
+    KNOWN = [
+        (pgboard.KnownChoice(0), [0, None], [None, None]),
+        (pgboard.KnownChoice(0), [0, 1], [2**31, 1]),
+        (pgboard.KnownLeaves(0, 1), [0, None], [1, None]),
+        (pgboard.KnownCycle(1), [None, 0], [None, None]),
+        (pgboard.KnownChoice(1), [0, 1], [0, None]),
+        (pgboard.BadWinner(1), [None, 2], [None, None]),
+        (pgboard.BadWinner(0), [7, 1], [0, 1]),
+        (pgboard.BadResults(4), [0], [0, 1]),
     ]
 
     def test_solves_and_verifies(self):
-        self.assertEqual(pgboard.solve(*TWO), ([0, 1], [0, 1]))
+        lazy = map(iter, TWO[:2]), (iter(row) for row in TWO[2])
+        self.assertEqual(pgboard.solve(*lazy[0], lazy[1]), ([0, 1], [0, 1]))
         self.assertEqual(pgboard.solve(*TWO, known=([None, 1], [None, 1])), ([0, 1], [0, 1]))
         self.assertEqual(pgboard.solve([1], [0], [[0]]), ([0], [None]))
-        pgboard.verify([1], [0], [[0]], [0], [None])
+        pgboard.verify([1], [0], [[0]], iter([0]), iter([None]))
 
-    def test_refuses_games_in_each_call(self):
-        for fault, at, to, *game in self.GAMES:
-            self.refused(fault, at, to, pgboard.solve, *game)
-            self.refused(fault, at, to, pgboard.Board, *game)
-            self.refused(fault, at, to, pgboard.verify, *game, [0], [0])
-            rows = (iter(row) for row in game[2])
-            self.refused(fault, at, to, pgboard.solve, iter(game[0]), iter(game[1]), rows)
-
-    def test_refuses_solutions(self):
-        for fault, at, to, winners, choices in (
-            (pgboard.BadResults, 5, 0, [0, 1], [0]),
-            (pgboard.BadWinner, 1, 0, iter([0, 2]), iter([0, 1])),
-            (pgboard.BadWinner, 1, 0, [0, None], [0, 1]),
-            (pgboard.NoChoice, 0, 0, [0, 1], [None, 1]),
-            (pgboard.BadChoice, 0, 0, [0, 1], [2**32 - 2, 1]),
-            (pgboard.Leaves, 0, 1, [0, 1], [1, 1]),
-        ):
-            self.refused(fault, at, to, pgboard.verify, *TWO, winners, choices)
+    def test_refuses_games_and_solutions(self):
+        for fault, *game in self.GAMES:
+            self.raises(fault, pgboard.solve, *game)
+            self.raises(fault, pgboard.Board, *game)
+            self.raises(fault, pgboard.verify, *game, [0], [0])
+        for fault, *solution in self.SOLUTIONS:
+            self.raises(fault, pgboard.verify, *TWO, *solution)
 
     def test_refuses_what_is_known(self):
         """By one call, and by posts to a board, which come before the one call where a game is not small."""
         lost, loops = ([0, 1], [2, 1], [[0], [0]]), ([0, 1], [1, 1], [[0], [1]])
-        for size in (pgboard.solving.SMALL, -1):
+        rows = [(fault, TWO, known) for fault, *known in self.KNOWN]
+        rows += [(pgboard.KnownLost(1), lost, ([0, 1], [0, 0])), (pgboard.KnownCycle(0), loops, ([0, 1], [0, None]))]
+        rows += [(fault, game, ([None] * len(game[0]),) * 2) for fault, *game in self.GAMES[1:]]
+        for size, (fault, game, known) in itertools.product((pgboard.solving.SMALL, -1), rows):
             with mock.patch.object(pgboard.solving, "SMALL", size):
-                for fault, at, to, winners, choices in (
-                    (pgboard.KnownChoice, 0, 0, [0, None], [None, None]),
-                    (pgboard.KnownChoice, 0, 0, [0, 1], [2**31, 1]),
-                    (pgboard.KnownLeaves, 0, 1, [0, None], [1, None]),
-                    (pgboard.KnownCycle, 1, 0, [None, 0], [None, None]),
-                    (pgboard.KnownChoice, 1, 0, [0, 1], [0, None]),
-                    (pgboard.BadWinner, 1, 0, [None, 2], [None, None]),
-                    (pgboard.BadWinner, 0, 0, [7, 1], [0, 1]),
-                    (pgboard.BadResults, 4, 0, [0], [0, 1]),
-                ):
-                    self.refused(fault, at, to, pgboard.solve, *TWO, known=(winners, choices))
-                self.refused(pgboard.KnownLost, 1, 0, pgboard.solve, *lost, known=([0, 1], [0, 0]))
-                self.refused(pgboard.KnownCycle, 0, 0, pgboard.solve, *loops, known=([0, 1], [0, None]))
-                for fault, at, to, *game in self.GAMES[1:]:
-                    known = [None] * len(game[0]), [None] * len(game[0])
-                    self.refused(fault, at, to, pgboard.solve, *game, known=known)
+                self.raises(fault, pgboard.solve, *game, known=known)
 
     def test_gives_up_by_one_call_and_in_slices(self):
         for levels in (3, 10):
             game = lists_of(plain.ladder(levels))
-            self.refused(pgboard.GaveUp, 0, 0, pgboard.solve, *game, steps=0)
             solved, nothing = pgboard.solve(*game), ([None] * len(game[0]),) * 2
-            self.refused(pgboard.GaveUp, 0, 0, pgboard.solve, *game, nothing, 0)
+            self.raises(pgboard.GaveUp(), pgboard.solve, *game, steps=0)
+            self.raises(pgboard.GaveUp(), pgboard.solve, *game, nothing, 0)
             self.assertEqual(pgboard.solve(*game, nothing, 10**6), solved)
             self.assertEqual(pgboard.solve(*game, solved, 0), solved)
             wrong = [1 - it for it in solved[0]], solved[1]
             with self.assertRaises(pgboard.NotKnown):
                 pgboard.solve(*game, wrong, 0)
             for steps in (10**6, 2**64 - 1, 2**64, 2**70):
-                self.assertEqual(pgboard.solve(*game, steps=steps), pgboard.solve(*game))
+                self.assertEqual(pgboard.solve(*game, steps=steps), solved)
 
-    def test_arguments_of_another_type_are_named(self):
-        whole, pair = "has to be an integer, not", "known: a pair of winners and choices is needed, not"
-        for at, name in enumerate(("owners", "priorities", "successors")):
-            self.says(f"{name}: a list is needed, not int", pgboard.solve, *with_one(TWO, at, 5))
-        for said, at, wrong in (
-            (rf"owners\[0\] {whole} str", 0, ["0", 1]),
-            (rf"priorities\[1\] {whole} NoneType", 1, [2, None]),
-            (rf"successors\[1\]\[1\] {whole} str", 2, [[0, 1], [1, "1"]]),
-            (r"successors\[1\]: a list is needed, not int", 2, [[0, 1], 1]),
+    def test_arguments_of_another_type_or_out_of_range_are_named(self):
+        whole, listed = "has to be an integer, not", "a list is needed, not int"
+        for error, at, wrong in (
+            (TypeError(f"owners: {listed}"), 0, 5),
+            (TypeError(f"priorities: {listed}"), 1, 5),
+            (TypeError(f"successors: {listed}"), 2, 5),
+            (TypeError(f"successors[1]: {listed}"), 2, [[0, 1], 1]),
+            (TypeError(f"owners[0] {whole} str"), 0, ["0", 1]),
+            (TypeError(f"priorities[1] {whole} NoneType"), 1, [2, None]),
+            (TypeError(f"successors[1][1] {whole} str"), 2, [[0, 1], [1, "1"]]),
+            (ValueError("owners[1]: 256 is out of range"), 0, iter([0, 256])),
+            (ValueError("priorities[0]: -1 is out of range"), 1, iter([-1, 0])),
+            (ValueError(f"successors[1][0]: {2**32} is out of range"), 2, [[0, 1], iter([2**32])]),
         ):
-            self.says(said, pgboard.solve, *with_one(TWO, at, wrong))
-        for known, said in ((5, "int"), ([[0, 1]], "list"), ((1, 2, 3), "tuple")):
-            self.says(f"{pair} {said}", pgboard.solve, *TWO, known=known)
-            self.says(f"{pair} {said}", pgboard.solve_csr, *CSR, known=known)
-        self.says("winners: a list is needed, not int", pgboard.verify, *TWO, 5, [0, 1])
-        self.says("choices: a list is needed, not int", pgboard.verify, *TWO, [0, 1], 5)
-        for wrong in (0.5, 1e10, float("nan"), "0"):
-            said = rf"choices\[0\] {whole} {type(wrong).__name__}"
-            self.says(said, pgboard.verify, *TWO, [0, 1], [wrong, 1])
-        self.says("steps: -1 is out of range", pgboard.solve, *TWO, steps=-1, error=ValueError)
-        for steps in (1.5, "3", [1]):
-            self.says(f"steps {whole} {type(steps).__name__}", pgboard.solve, *TWO, steps=steps)
+            self.raises(error, pgboard.solve, *with_one(TWO, at, wrong))
+        pair = "known: a pair of winners and choices is needed, not"
+        for error, known in ((5, "int"), ([[0, 1]], "list"), ((1, 2, 3), "tuple")):
+            self.raises(TypeError(f"{pair} {known}"), pgboard.solve, *TWO, known=error)
+            self.raises(TypeError(f"{pair} {known}"), pgboard.solve_csr, *CSR, known=error)
+        for error, winners, choices in (
+            (TypeError(f"winners: {listed}"), 5, [0, 1]),
+            (TypeError(f"choices: {listed}"), [0, 1], 5),
+            *((TypeError(f"choices[0] {whole} {type(it).__name__}"), [0, 1], [it, 1]) for it in (0.5, "0")),
+            (ValueError(f"winners[1]: {2**40} is out of range"), iter([0, 2**40]), [0, 1]),
+            (ValueError("choices[1]: -1 is out of range"), [0, 1], iter([0, -1])),
+            # (in a list no number is none)
+            (ValueError(f"choices[1]: {pgboard.NO_CHOICE} is out of range"), [0, 1], [None, pgboard.NO_CHOICE]),
+        ):
+            self.raises(error, pgboard.verify, *TWO, winners, choices)
+        self.raises(ValueError("steps: -1 is out of range"), pgboard.solve, *TWO, steps=-1)
+        for steps in (1.5, "3"):
+            self.raises(TypeError(f"steps {whole} {type(steps).__name__}"), pgboard.solve, *TWO, steps=steps)
 
 
 class Buffers(Tests):
     def forms(self):
-        numbers = list(map(list, CSR))
-        yield CSR
-        yield numbers
-        yield list(map(tuple, numbers))
         yield [array("b", CSR[0]), *(array("i", it) for it in CSR[1:])]
         yield [bytes(CSR[0]), *(memoryview(bytes(it)).cast("I") for it in CSR[1:])]
         yield [(ctypes.c_uint8 * 2)(*CSR[0]), *((ctypes.c_uint32 * len(it))(*it) for it in CSR[1:])]
         yield [*CSR[:3], memoryview(array("I", [7, *CSR[3], 7]))[1:4]]
-        for letter in "hHiIqQ":
-            yield [array(letter, it) for it in CSR]
         if numpy:
             for kinds in (("u1", "u4"), ("i1", "i4"), ("i8", "i8")):
                 yield [numpy.array(it, kinds[at > 0]) for at, it in enumerate(CSR)]
@@ -214,13 +212,12 @@ class Buffers(Tests):
         for game in self.forms():
             with self.subTest(game):
                 self.assertEqual(pgboard.solve_csr(*game), SOLVED)
-                self.assertEqual(pgboard.solve_csr(*game, known=([255, 1], (0, 1))), SOLVED)
-                pgboard.verify_csr(*game, *SOLVED)
-                with pgboard.Board.from_csr(*game) as board:
-                    self.assertEqual(board.post_arrays(1, [1], (1,)), (0, 1, 1))
-        for letter in "hHiIqQ":
-            known = array(letter, [pgboard.NO_WINNER, 1]), array(letter, [0, 1])
-            self.assertEqual(pgboard.solve_csr(*CSR, known=known), SOLVED)
+        for kind in (list, tuple, *(functools.partial(array, it) for it in "hHiIqQ")):
+            with self.subTest(kind), pgboard.Board.from_csr(*map(kind, CSR)) as board:
+                self.assertEqual(board.post_arrays(1, kind([1]), kind([1])), (0, 1, 1))
+                known = kind([pgboard.NO_WINNER, 1]), kind([0, 1])
+                self.assertEqual(pgboard.solve_csr(*map(kind, CSR), known=known), SOLVED)
+                pgboard.verify_csr(*CSR, *map(kind, SOLVED))
 
     def test_takes_large_numbers_in_small_and_large_games(self):
         for size in (3, 200):
@@ -228,72 +225,54 @@ class Buffers(Tests):
             found = pgboard.solve_csr(*(array("q", it) for it in game))
             self.assertEqual(found, (array("B", [1] * size), array("I", [size - 1] * size)))
 
-    def test_refuses_numbers_out_of_range(self):
-        for place, name in enumerate(NAMES):
-            for value in (-1, -(2**31), 256 if place == 0 else 2**32, 2**40, 2**64):
-                wrong = [0, value]
-                said = rf"{name}\[1\]: {value} is out of range"
-                for held in (wrong, tuple(wrong), *self.signed(wrong)):
-                    game = with_one(CSR, place, held)
-                    self.out_of_range(said, pgboard.solve_csr, *game)
-                    self.out_of_range(said, pgboard.verify_csr, *game, *SOLVED)
-                    self.out_of_range(said, pgboard.Board.from_csr, *game)
-            if place < 2:
-                self.out_of_range(said, pgboard.solve, *with_one(TWO, place, iter(wrong)))
-            if place == 3:
-                said = rf"successors\[1\]\[1\]: {value} is out of range"
-                self.out_of_range(said, pgboard.solve, *TWO[:2], [[0, 1], iter(wrong)])
-
-    def test_refuses_claims_out_of_range(self):
-        for value in (-1, -(2**31), 2**32, 2**40):
-            said = rf"winners\[1\]: {value} is out of range"
-            for held in ([0, value], *self.signed([0, value])):
-                self.out_of_range(said, pgboard.verify_csr, *CSR, held, [0, 1])
-                self.out_of_range(said, pgboard.solve_csr, *CSR, known=(held, [0, 1]))
-            self.out_of_range(said, pgboard.verify, *TWO, iter([0, value]), [0, 1])
-            said = rf"choices\[1\]: {value} is out of range"
-            for held in ([0, value], *self.signed([0, value])):
-                self.out_of_range(said, pgboard.verify_csr, *CSR, [0, 1], held)
-                self.out_of_range(said, pgboard.Board.from_csr(*CSR).post_arrays, 1, [0, 1], held)
-            self.out_of_range(said, pgboard.verify, *TWO, [0, 1], iter([0, value]))
-        # (in a list no number is none)
-        said = rf"choices\[1\]: {pgboard.NO_CHOICE} is out of range"
-        self.out_of_range(said, pgboard.verify, *TWO, [0, 1], [None, pgboard.NO_CHOICE])
-
-    def signed(self, numbers):
-        """Arrays that hold them, and are not those that C takes."""
+    def held(self, numbers):
+        """A list and a tuple, and the arrays that hold numbers and are not those that C takes."""
+        yield from (numbers, tuple(numbers))
         for letter, least in zip("bhiq", (2**7, 2**15, 2**31, 2**63)):
             if -least <= min(numbers) <= max(numbers) < least:
                 yield array(letter, numbers)
 
-    def out_of_range(self, said, call, *arguments, **named):
-        with self.subTest(said), self.assertRaisesRegex(ValueError, f"^{said}$") as found:
-            call(*arguments, **named)
-        self.assertIs(type(found.exception), ValueError)
+    def test_refuses_numbers_out_of_range(self):
+        for place, name in enumerate(NAMES):
+            for value in (-1, -(2**31), 256 if place == 0 else 2**32, 2**40, 2**64):
+                error = ValueError(f"{name}[1]: {value} is out of range")
+                for held in self.held([0, value]):
+                    self.raises(error, pgboard.solve_csr, *with_one(CSR, place, held))
+        for call in (pgboard.Board.from_csr, lambda *game: pgboard.verify_csr(*game, *SOLVED)):
+            self.raises(error, call, *with_one(CSR, 3, held))
+        board = pgboard.Board.from_csr(*CSR)
+        for value in (-1, -(2**31), 2**32, 2**40):
+            winners, choices = (ValueError(f"{it}[1]: {value} is out of range") for it in ("winners", "choices"))
+            for held in self.held([0, value]):
+                self.raises(winners, pgboard.solve_csr, *CSR, known=(held, [0, 1]))
+                self.raises(winners, pgboard.verify_csr, *CSR, held, [0, 1])
+                self.raises(choices, pgboard.verify_csr, *CSR, [0, 1], held)
+                self.raises(choices, board.post_arrays, 1, [0, 1], held)
 
     def test_refuses_what_is_no_buffer_of_integers(self):
         needed = "a contiguous buffer of integers in one dimension is needed, not"
         gaps = "one with gaps between its items: numpy.ascontiguousarray copies it"
         rows = [
-            (0, {0, 1}, "set"), (0, b"".join, "builtin_function_or_method"), (3, "01", "str"),
-            (1, array("f", [2, 1]), "one of items 'f' of 4 bytes"), (
-                2, memoryview(bytes(24)).cast("I")[::2], gaps
-            ),
+            (0, {0, 1}, "set"),
+            (0, b"".join, "builtin_function_or_method"),
+            (3, "01", "str"),
+            (1, array("f", [2, 1]), "one of items 'f' of 4 bytes"),
+            (2, memoryview(bytes(24)).cast("I")[::2], gaps),
             (1, memoryview(bytes(8)).cast("B").cast("I", [2, 1]), "one of 2 dimensions"),
-        ]  # fmt: skip
+        ]
         for at, kind in enumerate((ctypes.c_uint16, ctypes.c_uint32, ctypes.c_int32, ctypes.c_int64)):
             swapped = (kind.__ctype_be__ * len(CSR[at]))(*CSR[at])
-            rows.append((at, swapped, f"one of items '>.' of {ctypes.sizeof(kind)} bytes"))
+            letter = memoryview(swapped).format
+            rows.append((at, swapped, f"one of items {letter!r} of {ctypes.sizeof(kind)} bytes"))
         if numpy:
-            rows.append((3, numpy.array(CSR[3], ">i8"), "one of items '>.' of 8 bytes"))
+            rows.append((3, numpy.array(CSR[3], ">i8"), "one of items '>q' of 8 bytes"))
         for at, wrong, said in rows:
-            self.says(f"{NAMES[at]}: {needed} {said}", pgboard.solve_csr, *with_one(CSR, at, wrong))
-        for wrong in ("text", None, {0}):
-            said = f"vertices: {needed} {type(wrong).__name__}"
-            self.says(said, pgboard.Board(*TWO).post_arrays, 0, wrong, b"")
-        for at, wrong in itertools.product(range(4), ([1.5, 0], ["0", "1"], [None])):
-            said = rf"{NAMES[at]}\[0\] has to be an integer, not {type(wrong[0]).__name__}"
-            self.says(said, pgboard.solve_csr, *with_one(CSR, at, wrong))
+            self.raises(TypeError(f"{NAMES[at]}: {needed} {said}"), pgboard.solve_csr, *with_one(CSR, at, wrong))
+        said = TypeError(f"vertices: {needed} NoneType")
+        self.raises(said, pgboard.Board(*TWO).post_arrays, 0, None, b"")
+        for at, wrong in zip(range(4), ([1.5, 0], ["0", "1"], [None], (0.5,))):
+            said = f"{NAMES[at]}[0] has to be an integer, not {type(wrong[0]).__name__}"
+            self.raises(TypeError(said), pgboard.solve_csr, *with_one(CSR, at, wrong))
 
     @unittest.skipUnless(scipy, "scipy is not installed")
     def test_takes_a_matrix_of_scipy(self):
@@ -305,11 +284,11 @@ class Buffers(Tests):
                 self.assertEqual(board.post(1, {1: 1}), (0, 1, 1))
         # (a column-compressed one has the same fields, by which each edge would go the other way)
         for it in (matrix.tocsc(), matrix.tocoo(), numpy.array([0, 1]), array("I", [0, 1]), [0, 2, 3]):
-            said = "indices: without them a SciPy matrix in the form csr is needed for indptr, not .*"
-            self.says(said, pgboard.solve_csr, *TWO[:2], it)
+            said = "indices: without them a SciPy matrix in the form csr is needed for indptr, not "
+            self.raises(TypeError(said + type(it).__name__), pgboard.solve_csr, *TWO[:2], it)
         for kind in kinds:
-            self.refused(pgboard.BadLengths, 2, 0, pgboard.solve_csr, *TWO[:2], kind([[1, 1]] * 3))
-            self.refused(pgboard.UnknownSuccessor, 0, 2, pgboard.solve_csr, *TWO[:2], kind([[1] * 3] * 2))
+            self.raises(pgboard.BadLengths(2), pgboard.solve_csr, *TWO[:2], kind([[1, 1]] * 3))
+            self.raises(pgboard.UnknownSuccessor(0, 2), pgboard.solve_csr, *TWO[:2], kind([[1] * 3] * 2))
 
     @unittest.skipUnless(scipy, "scipy is not installed")
     def test_gives_the_strategy_as_a_matrix_of_scipy(self):
@@ -351,6 +330,7 @@ class Faults(Tests):
             pgboard.UnknownSuccessor(7, 9): "vertex 7: the successor 9 is no vertex",
             pgboard.KnownLost(1): lost,
             pgboard.NoToken(7): "byte 7: no token",
+            pgboard.MissingAttribute(1, "x", "owner"): "node 'x' has no attribute 'owner'",
         }
         self.assertEqual([str(it) for it in texts], list(texts.values()))
 
@@ -374,14 +354,14 @@ class Texts(Tests):
 
     def test_a_str_that_utf_8_cannot_encode_is_a_value_error(self):
         """Also where Python has made it of bytes that are no UTF-8, as names of files; bytes have any."""
-        for text, call in itertools.product(('0 0 0 0 "\ud800";', "0 0 0 0\udcff;"), self.CALLS):
+        for text, call in zip(('0 0 0 0 "\ud800";', "0 0 0 0\udcff;", "\udcff"), self.CALLS):
             with self.assertRaises(UnicodeEncodeError):
                 call(text)
 
     def test_takes_bytes_or_str_alone(self):
         others = None, 5, [48], bytearray(b"0 0 0 0;"), memoryview(b"0 0 0 0;")
-        for other, call in itertools.product(others, self.CALLS):
-            self.says(f"a text is bytes or str, not {type(other).__name__}", call, other)
+        for other, call in zip(others, itertools.cycle(self.CALLS)):
+            self.raises(TypeError(f"a text is bytes or str, not {type(other).__name__}"), call, other)
 
     def test_solves_a_file(self):
         with tempfile.TemporaryDirectory() as folder:
@@ -394,11 +374,13 @@ class Texts(Tests):
             with self.assertRaises(FileNotFoundError):
                 pgboard.solve_file(f"{path}.gz")
             packed.write_bytes(gzip.compress(bytes(1000))[:-9])
-            self.says(".*: it can't be unpacked: .*", pgboard.solve_file, packed, error=ValueError)
+            with self.assertRaisesRegex(ValueError, "^.*: it can't be unpacked: .*$"):
+                pgboard.solve_file(packed)
             packed.write_bytes(gzip.compress(bytes(1000)))
             for it in (packed, "/dev/zero"):
                 with mock.patch("pgboard.command.MOST_BYTES", 999):
-                    self.says(".*: it has more than 999 bytes", pgboard.solve_file, it, error=ValueError)
+                    with self.assertRaisesRegex(ValueError, "^.*: it has more than 999 bytes$"):
+                        pgboard.solve_file(it)
 
     def test_standard_input_stays_open(self):
         program = "import sys, pgboard\nprint(pgboard.%s('-'), sys.stdin.read(), sys.stdin.closed)"
@@ -407,16 +389,56 @@ class Texts(Tests):
             self.assertTrue(out.startswith(said) and out.endswith("  False\n"), out + err)
 
     def test_refuses_texts(self):
-        for game, solution, fault, at in (
-            ("0 0 0 ?;", "", pgboard.NoToken, 6),
-            ("7 0 0 7; 7 1 1 7;", "", pgboard.SpecifiedTwice, 7),
-            (GAME, "3 0 ?", pgboard.NoToken, 4),
-            (GAME, "3 0 3;", pgboard.NotWritten, 9),
+        for fault, game, solution in (
+            (pgboard.NoToken(6), "0 0 0 ?;", ""),
+            (pgboard.SpecifiedTwice(7), "7 0 0 7; 7 1 1 7;", ""),
+            (pgboard.NoToken(4), GAME, "3 0 ?"),
+            (pgboard.NotWritten(9), GAME, "3 0 3;"),
         ):
-            self.refused(fault, at, 0, pgboard.verify_text, game, solution)
+            self.raises(fault, pgboard.verify_text, game, solution)
+
+    def says(self, said, call, *texts):
+        with self.subTest(said), self.assertRaises(pgboard.Refused) as found:
+            call(*texts)
+        self.assertEqual(str(found.exception), said)
+
+    def test_a_fault_of_a_text_has_its_line_and_column(self):
+        for text, said in (
+            ('0 0 0 0 "\u03a9";\n1 ?', "2:3: byte 16: no token"),
+            ('0 0 0 0 "\u03a9"; 1 ?', "1:16: byte 16: no token"),
+            ('0 0 0 0 "; 0 1";\n 0 1 1 0;', "2:2: vertex 0 is specified twice"),
+            ('7 8 0 7,8 "8";', "1:9: vertex 7: the successor 8 is no vertex"),
+            ("", "1:1: byte 0: not expected"),
+        ):
+            for call in (pgboard.solve_text, pgboard.tidy_text, pgboard.Board.from_text):
+                self.says(f"game:{said}", call, text)
+            with tempfile.NamedTemporaryFile() as file:
+                pathlib.Path(file.name).write_bytes(text.encode())
+                self.says(f"{file.name}:{said}", pgboard.solve_file, file.name)
+        for text, said in (
+            ("3 0 3;\n9 ?", "solution:2:3: byte 9: no token"),
+            ("3 0 3;\n9 1 9;\n 3 0 3;", "solution:3:2: vertex 3 is written twice"),
+            ("3 0 3;\n 9 1 5;", "solution:2:6: vertex 5 is not in the game"),
+            ("3 0 3;", "vertex 9 is not written"),
+        ):
+            self.says(said, pgboard.verify_text, GAME, text)
 
 
 class Package(Tests):
+    @unittest.skipUnless(shutil.which("cc"), "not installed: cc")
+    def test_a_library_is_proved_that_says_so_itself(self):
+        for symbol, said in (
+            ("other", "not recorded"),
+            ('pgboard_proved[] = "proved, commit 1"', "proved"),
+            ('pgboard_unproved[] = "unproved, commit 1"', "unproved, commit 1"),
+        ):
+            with tempfile.TemporaryDirectory() as folder:
+                words = ["cc", "-shared", "-x", "c", "-", "-o", f"{folder}/built.so"]
+                subprocess.run(words, input=f"const char {symbol};".encode(), check=True)
+                loaded = {"loaded": ctypes.CDLL(f"{folder}/built.so")}
+                with mock.patch.dict(pgboard.library.LIBRARY.__dict__, loaded):
+                    self.assertEqual(pgboard.build(), said)
+
     def test_exports_each_name(self):
         self.assertEqual([it for it in pgboard.__all__ if not hasattr(pgboard, it)], [])
         self.assertTrue(os.path.exists(os.path.join(os.path.dirname(pgboard.__file__), "py.typed")))
@@ -501,13 +523,13 @@ print(doctest.testmod(pgboard)[:2], rlcompleter.Completer({"pgboard": pgboard}).
         with tempfile.TemporaryDirectory() as folder, mock.patch("pgboard.native.PROCESSORS", f"{folder}/cpuinfo"):
             pgboard.native.check_processor()
             new = "processor\t: 0\nflags\t\t: fpu pni ssse3 cx16 sse4_1 sse4_2 popcnt lahf_lm avx\n\n"
-            path, said = pathlib.Path(folder, "cpuinfo"), ".* level x86-64-v2, and this one lacks popcnt, sse4_2"
+            path, said = pathlib.Path(folder, "cpuinfo"), " level x86-64-v2, and this one lacks popcnt, sse4_2$"
             for text in (new, "processor: 0\n"):
                 path.write_text(text)
                 pgboard.native.check_processor()
             path.write_text(new.replace("popcnt", "").replace("sse4_2", "") + new)
-            self.says(said, pgboard.native.check_processor, error=ImportError)
-            self.says(said, pgboard.library.Library().__getattr__, "pgboard_version", error=ImportError)
+            with self.assertRaisesRegex(ImportError, said):
+                pgboard.library.Library().pgboard_version
 
     def test_a_library_of_another_version_is_refused(self):
         mine = pgboard.library.VERSION
@@ -591,22 +613,22 @@ class Graphs(Tests):
             ("owner", pgboard.BadOwner, 2, 256),
         ):
             for data[name], said, error in (
-                (-1, f": {name}: -1 is out of range", ValueError),
-                (far, f": {name}: {far} is out of range", ValueError),
-                ("1", f": {name} has to be an integer, not str", TypeError),
-                (wrong, f": the {name} is .*", fault),
+                (-1, f"{name}: -1 is out of range", ValueError),
+                (far, f"{name}: {far} is out of range", ValueError),
+                ("1", f"{name} has to be an integer, not str", TypeError),
+                (wrong, f"the {name} is ", fault),
             ):
-                self.says(f"node 'lose'{said}", pgboard.solve_graph, self.graph, error=error)
-        empty = networkx.DiGraph()
-        self.says("there is no vertex", pgboard.solve_graph, empty, error=pgboard.NoVertex)
+                with self.subTest(said), self.assertRaisesRegex(error, f"^node 'lose': {said}"):
+                    pgboard.solve_graph(self.graph)
+        self.raises(pgboard.NoVertex(), pgboard.solve_graph, networkx.DiGraph())
 
     def test_what_is_missing_is_named(self):
-        said, missing = "has no attribute", {"error": pgboard.MissingAttribute}
-        self.says(f"node 'stay' {said} 'rank'", pgboard.solve_graph, self.graph, priority="rank", **missing)
+        missing = pgboard.MissingAttribute
+        self.raises(missing(0, "stay", "rank"), pgboard.solve_graph, self.graph, priority="rank")
         del self.graph.nodes["lose"]["priority"]
-        self.says(f"node 'lose' {said} 'priority'", pgboard.solve_graph, self.graph, **missing)
+        self.raises(missing(1, "lose", "priority"), pgboard.solve_graph, self.graph)
         other = networkx.Graph(self.graph)
-        self.says("a graph is a networkx.DiGraph, not Graph", pgboard.solve_graph, other)
+        self.raises(TypeError("a graph is a networkx.DiGraph, not Graph"), pgboard.solve_graph, other)
 
 
 if __name__ == "__main__":

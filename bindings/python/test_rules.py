@@ -86,7 +86,7 @@ class Rules(Tests):
             (pgboard.NoSuccessor, 0, 0, [{}], [0], [0], [0, 0], []),
         ):
             for how in hows:
-                self.refused(fault, at, to, pgboard.solve_csr, *game, **how)
+                self.raises(fault(at, to), pgboard.solve_csr, *game, **how)
 
 
 if __name__ == "__main__":

@@ -1,4 +1,4 @@
-"""What the scripts of examples/ have beside the Python package pgboard. Nothing in this folder is a command.
+"""What a script of examples/ has beside the Python package pgboard. Nothing in this folder is a command.
 
 A clone has the package in bindings/python; elsewhere it is installed. A script imports this first, before
 all that takes time to load.

@@ -1,5 +1,5 @@
-"""The command `python3 -m pgboard`, which a wheel also installs as `pgboard-python`. At the top of a clone
-`python3 bindings/python/pgboard` is the same.
+"""The command `python3 -m pgboard`, which a wheel installs as `pgboard`. The script `pgboard` of a clone or a package
+runs it for the words, flags and files that the program does not have.
 """
 
 # mypy: ignore-errors

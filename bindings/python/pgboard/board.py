@@ -19,6 +19,7 @@ from typing import TYPE_CHECKING, Any, Callable, Iterable, Iterator, Mapping, Na
 from . import faults, native, slices
 from .arrays import Buffer, Numbers, Rows, Solution, Text, game_of, game_views, moves_of, numbers, text_bytes, view_of
 from .library import NO_CHOICE, NO_WINNER, Handle, Ints, bound, index_of, number_of, own, owned
+from .places import placed
 from .slices import Cancel, Slice, limits_of
 from .solving import blank
 
@@ -104,7 +105,8 @@ class Board:
     def from_text(cls: type[AnyBoard], game: Text) -> AnyBoard:
         """A board of a game's text in PGSolver's format. Its vertices have the numbers from 0 on, in the order of their identifiers."""
         board, given = cls.__new__(cls), text_bytes(game)
-        board._open(lambda handle: handle.open_text(given))
+        with placed(given):
+            board._open(lambda handle: handle.open_text(given))
         return board
 
     def _open_arrays(self, *given: Any) -> None:

@@ -16,6 +16,7 @@ from .faults import *  # noqa: F401,F403
 from .files import read_bytes, read_game  # noqa: F401
 from .library import NO_CHOICE, NO_WINNER, bound, build, number_of, owned, run, written  # noqa: F401
 from .native import span_of, struct_of
+from .places import placed
 from .slices import Cancel, limits_of
 from .solving import blank_text, solve_arrays, solve_bytes
 from .version import __version__  # noqa: F401
@@ -126,9 +127,12 @@ def verify(
 
 
 def solve_text(game: Text, *, timeout: float | None = None, cancel: Cancel | None = None) -> str:
-    """A solution's text of a game's text in PGSolver's format. Raises what `solve` does."""
-    limits = limits_of(timeout, cancel)
-    return solve_bytes(text_bytes(game), limits)
+    """A solution's text of a game's text in PGSolver's format. Raises what `solve` does; a fault has its
+    line and column.
+    """
+    limits, given = limits_of(timeout, cancel), text_bytes(game)
+    with placed(given):
+        return solve_bytes(given, limits)
 
 
 def solve_file(
@@ -139,13 +143,16 @@ def solve_file(
     than a text may have, and what `solve_text` raises.
     """
     limits = limits_of(timeout, cancel)
-    return solve_bytes(array("B", read_bytes(path)), limits)
+    given = array("B", read_bytes(path))
+    with placed(given, path=os.fsdecode(path)):
+        return solve_bytes(given, limits)
 
 
 def tidy_text(game: Text) -> str:
     """The one written form of a game's text. Raises what `solve_text` does."""
     given = text_bytes(game)
-    return written(blank_text(given), "pgboard_tidy_text", *span_of(given))
+    with placed(given):
+        return written(blank_text(given), "pgboard_tidy_text", *span_of(given))
 
 
 def verify_text(game: Text, solution: Text) -> None:
@@ -153,7 +160,8 @@ def verify_text(game: Text, solution: Text) -> None:
     what `solve_text` does too.
     """
     given = [text_bytes(it) for it in (game, solution)]
-    run("pgboard_verify_text", *span_of(given[0]), *span_of(given[1]))
+    with placed(given[0], given[1]):
+        run("pgboard_verify_text", *span_of(given[0]), *span_of(given[1]))
 
 
 def attributes(graph: Any, nodes: Sequence[Any], name: str, most: int) -> list[int]:

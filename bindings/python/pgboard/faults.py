@@ -8,10 +8,14 @@ ARRAYS = {1: "priorities", 2: "starts of rows", 3: "successors", 4: "winners", 5
 
 class Fault(ValueError):
     """Why there is no answer: `at` and `to` are the vertices, the place in a text or the number of the array that it is about.
-    `node` is the node of a graph that the vertex `at` is."""
+    `node` is the node of a graph that the vertex `at` is. `line` and `column` are where it stands in a text, counted from 1, and
+    `text` is the text's file, or says whether it is the game or the solution."""
 
     words = "{at}"
     node: object = None
+    line: int | None = None
+    column: int | None = None
+    text = "game"
 
     def __init__(self, at: int = 0, to: int = 0) -> None:
         super().__init__(at, to)
@@ -19,7 +23,8 @@ class Fault(ValueError):
 
     def __str__(self) -> str:
         vertex = f"vertex {self.at}" if self.node is None else f"node {self.node!r}"
-        return self.words.format(at=self.at, to=self.to, vertex=vertex, array=ARRAYS.get(self.at, "arrays"))
+        said = self.words.format(at=self.at, to=self.to, vertex=vertex, array=ARRAYS.get(self.at, "arrays"))
+        return said if self.line is None else f"{self.text}:{self.line}:{self.column}: {said}"
 
 
 class Refused(Fault):

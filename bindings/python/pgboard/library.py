@@ -4,6 +4,7 @@ of memory.
 
 from __future__ import annotations
 
+import contextlib
 import ctypes
 import functools
 import math
@@ -27,6 +28,8 @@ else:
 NO_CHOICE = 4294967295
 NO_WINNER = 255
 
+# the answers on a solution's text
+OF_SOLUTIONS = range(40, 50)
 # the package's version as pgboard_version says it
 NUMBERS = [int(it) for it in __version__.split(".")]
 VERSION = NUMBERS[0] * 10000 + NUMBERS[1] * 100 + NUMBERS[2]
@@ -75,12 +78,12 @@ LIBRARY = Library()
 
 
 def build() -> str:
-    """What the loaded library is: 'proved', or 'unproved' with the commit of its sources."""
-    try:
-        text = (ctypes.c_char * 100).in_dll(LIBRARY.loaded, "pgboard_unproved")
-    except ValueError:
-        return "proved"
-    return ctypes.string_at(text).decode("ascii")
+    """What the loaded library says that it is: 'proved', or 'unproved' with the commit of its sources; else 'not recorded'."""
+    for name in ("pgboard_unproved", "pgboard_proved"):
+        with contextlib.suppress(ValueError):
+            said = ctypes.string_at((ctypes.c_char * 100).in_dll(LIBRARY.loaded, name)).decode("ascii")
+            return said if said.startswith("unproved") else "proved"
+    return "not recorded"
 
 
 def index_of(name: str, value: Any) -> int:
@@ -125,11 +128,12 @@ def run(name: str, *arguments: Any) -> None:
 
 
 def fault_of(answer: int, at: int, to: int) -> Exception:
-    return (
-        FAULTS[answer](at, to)
-        if answer in FAULTS
-        else RuntimeError(f"the library of pgboard answers {answer}")
-    )
+    if answer not in FAULTS:
+        return RuntimeError(f"the library of pgboard answers {answer}")
+    fault = FAULTS[answer](at, to)
+    if answer in OF_SOLUTIONS:
+        fault.text = "solution"
+    return fault
 
 
 def written(into: Ints, name: str, *arguments: Any) -> str:

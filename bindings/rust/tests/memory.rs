@@ -67,6 +67,15 @@ fn after_refusals<T>(mut call: impl FnMut() -> Result<T, Fault>) -> T {
 fn refused_memory_is_a_fault_and_changes_nothing() {
     let (owners, priorities, starts, targets) = ([Even, Odd], [2, 1], [0, 2, 3], [0, 1, 1]);
     let game = after_refusals(|| Game::new(&owners[..], &priorities[..], &starts[..], &targets[..]));
+    let edges = [(1, 1), (0, 1), (0, 0)];
+    assert_eq!(after_refusals(|| Game::from_edges(&owners[..], &priorities[..], edges)), game);
+    let built = after_refusals(|| {
+        let mut builder = Game::builder();
+        builder.push(Even, 2, [0, 1]);
+        builder.push(Odd, 1, [1]);
+        builder.build()
+    });
+    assert_eq!(built, game);
     let solution = after_refusals(|| game.solve());
     assert_eq!(solution.winners, owners);
     let known = Partial { winners: vec![None, Some(Odd)], choices: vec![NO_CHOICE, 1] };
@@ -92,4 +101,20 @@ fn refused_memory_is_a_fault_and_changes_nothing() {
     assert_eq!(after_refusals(|| board.solution()), solution);
     assert_eq!(after_refusals(|| board.solution_text()), "paritysol 1;\n0 0 0;\n1 1 1;\n");
     after_refusals(|| Board::open_text(given).map(drop));
+}
+
+#[test]
+fn a_list_without_an_end_is_a_fault_at_the_limits() {
+    let mut builder = Game::builder();
+    builder.push(Even, 0, 0..);
+    builder.push(Even, 0, 0..);
+    assert_eq!(builder.build(), Err(Fault::TooManyEdges));
+    let mut builder = Game::builder();
+    for v in 0..=1 << 20 {
+        builder.push(Even, 0, [v]);
+    }
+    assert_eq!(builder.build(), Err(Fault::TooManyVertices));
+    // (equal edges are one)
+    let doubled = (0..3 << 24).map(|at| (0, at >> 25));
+    assert_eq!(Game::from_edges(&[Even][..], &[0][..], doubled), Err(Fault::Unknown { vertex: 0, to: 1 }));
 }

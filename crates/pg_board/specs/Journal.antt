@@ -41,6 +41,10 @@ pub record IsLawful (g : Graph) (journal : Journal) : Type 0 where
   pub answered : (k : ℕ) (e : Entry) → slice_get journal k ≡ Some e → Answers g (state_of (take k journal)) e.player (claimed_rows e) e
   pub states : (k : ℕ) → k ≤ length journal → IsLawfulState g (state_of (take k journal))
 
+-- the journal begins with these entries
+abbrev pub BeginsWith : Journal → Journal → Type 0
+BeginsWith entries journal = take (length entries) journal ≡ entries
+
 -- the number of settled vertices, of all and of one worker
 abbrev pub number_settled : Journal → ℕ
 number_settled journal = sum_by (λ e. length e.rows) journal

@@ -15,6 +15,6 @@ mod session;
 
 pub use board::Board;
 pub use journal::{Entry, Posted, Refusal};
-pub use office::{Office, Share};
+pub use office::{Office, Opening, Share};
 pub use options::{BUDGET, Options};
 pub use session::Session;

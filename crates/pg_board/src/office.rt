@@ -1,13 +1,12 @@
 //! One board and the book of its ledger under a lock, and the shares of its users. Each share is a part of the ledger, and its
 //! amount is the number of vertices that were settled through it. The ledger keeps the book equal to the sum of all amounts,
-//! and the type under the lock keeps it equal to the number settled.
+//! and the type under the lock keeps it equal to the number settled. It also keeps the game and the entries of the opening.
 
 ghost use Rattle.std.specs.Prelude.{◌≡◌, ◌+◌, ◌-◌, ◌≤◌, ◌<◌, ℕ, ◌∷◌, [], IfOk, sum, replicate, vec_len};
 ghost use Rattle.pg_game.specs.Specification.{max_vertices};
-ghost use Rattle.pg_board.specs.Journal.{IsLawful, number_settled};
+ghost use Rattle.pg_board.specs.Journal.{IsLawful, number_settled, BeginsWith};
 ghost use Rattle.std.specs.Sync.Mutex.{mutex_guard_value};
-ghost use Rattle.pg_board.specs.Board.{IsLawfulBoard};
-ghost use Rattle.pg_board.specs.Office.{AreExact, IsCopyOfSome, Through, IsAnswerOfSome, IsCheckedAnswerOfSome, IsRaised};
+ghost use Rattle.pg_board.specs.Office.{AreExact, IsOfOffice, IsCopyOfSome, Through, IsAnswerOfSome, IsCheckedAnswerOfSome, IsRaised};
 ghost use Rattle.pg_board.specs.Post.{IsPostAnswer, IsSettleAnswer};
 
 use crate::board::Board;
@@ -16,9 +15,22 @@ use pg_dominion::{Checked, Claim};
 use pg_finders::Copied;
 use pg_game::{Game, Memory};
 use std::alloc::Global;
-use std::marker::Model;
+use std::marker::{Brand, Model};
 use std::sync::ledger::{Blank, Book, Ledger, Share as Token};
 use std::sync::{Mutex, MutexGuard, Wait};
+
+/// The ledger of an office, and the board with which it opens. Each call that opens an office chooses them.
+pub trait Opening: Ledger {
+    ghost use Rattle.pg_board.specs.BoardRecord.{BoardRecord};
+
+    ghost opened: { BoardRecord };
+}
+
+impl Opening for Brand {
+    ghost use Rattle.std.specs.Prelude.{[]};
+
+    ghost opened = { record { graph = []; journal = [] } };
+}
 
 /// A share of an office: the number of vertices that were settled through it. Contracts see it as that number.
 #[derive(Drop)]
@@ -61,11 +73,11 @@ impl<L: Ledger> Share<L> {
 
 /// One board under a lock.
 #[derive(Drop)]
-pub struct Office<'g, L: Ledger> {
+pub struct Office<'g, L: Opening> {
     locked: Mutex<LockedBoard<'g, L>>,
 }
 
-impl<'g, L: Ledger> Office<'g, L> {
+impl<'g, L: Opening> Office<'g, L> {
     /// Opens an office on a board with nothing settled, with one share of amount 0 for each of 1 to 64 seats. The only
     /// error is `Memory`.
     pub fn open(
@@ -77,6 +89,7 @@ impl<'g, L: Ledger> Office<'g, L> {
         requires name { blank.name ≡ L.name }
         requires parts { (blank.parts ≡ L.parts) × (blank.parts ≡ seats) }
         requires seats { (1 ≤ seats) × (seats ≤ 64) }
+        requires opened { record { graph = game.now; journal = [] } ≡ L.opened }
         ensures shares { IfOk result (λ o. o.1.items ≡ replicate seats 0) }
         ensures exact { IfOk result (λ o. AreExact o.1.items 0 []) }
     {
@@ -95,6 +108,7 @@ impl<'g, L: Ledger> Office<'g, L> {
         requires name { blank.name ≡ L.name }
         requires parts { (blank.parts ≡ L.parts) × (blank.parts ≡ seats) }
         requires seats { (1 ≤ seats) × (seats ≤ 65) }
+        requires opened { board ≡ L.opened }
         ensures shares { IfOk result (λ o. o.1.items ≡ number_settled board.entry.journal ∷ replicate (seats - 1) 0) }
         ensures exact { IfOk result (λ o. AreExact o.1.items (number_settled board.entry.journal) board.entry.journal) }
     {
@@ -114,11 +128,14 @@ impl<'g, L: Ledger> Office<'g, L> {
         Ok((office, shares))
     }
 
-    /// Closes the office: takes back all of its shares and returns the board. The number settled is the sum of their amounts.
+    /// Closes the office: takes back all of its shares and returns the board. The number settled is the sum of their amounts,
+    /// and the journal begins with the entries at the opening.
     pub fn close(self, mut shares: Vec<Share<L>>) -> Board<'g>
         requires all { (vec_len shares ≡ L.parts) × (0 < L.parts) }
         ensures exact { number_settled result.journal ≡ sum shares.items }
         ensures lawful { IsLawful result.graph result.journal }
+        ensures game { result.graph ≡ L.opened.graph }
+        ensures begins { BeginsWith L.opened.journal result.journal }
     {
         let Office { locked } = self;
         let LockedBoard { board, mut book } = locked.into_inner();
@@ -138,8 +155,8 @@ impl<'g, L: Ledger> Office<'g, L> {
     }
 
     /// Waits for the lock and posts the claim on the board. Returns the number of vertices that it settled, and the share's
-    /// amount rises by it. After an error the share is unchanged. The result is one of `Board::post` on some lawful board
-    /// with at least the share's amount settled.
+    /// amount rises by it. After an error the share is unchanged. The result is one of `Board::post` on some lawful board of
+    /// the office's game, with the entries of the opening and at least the share's amount settled.
     pub fn post<R: Wait>(
         &self,
         rt: &R,
@@ -148,7 +165,7 @@ impl<'g, L: Ledger> Office<'g, L> {
         worker: u32,
         claim: &Claim,
     ) -> Result<u32, Refusal>
-        ensures answer { IsAnswerOfSome share.old worker claim.now result }
+        ensures answer { IsAnswerOfSome L.opened share.old worker claim.now result }
         ensures raised { IsRaised share.old share.new result }
     {
         self.lock_for(rt, share).post(alloc, share, worker, claim)
@@ -163,22 +180,22 @@ impl<'g, L: Ledger> Office<'g, L> {
         worker: u32,
         checked: &Checked,
     ) -> Result<u32, Refusal>
-        ensures answer { IsCheckedAnswerOfSome share.old worker checked.now result }
+        ensures answer { IsCheckedAnswerOfSome L.opened share.old worker checked.now result }
         ensures raised { IsRaised share.old share.new result }
     {
-        self.lock_for(rt, share)
-            .settle(alloc, share, worker, checked)
+        let mut locked = self.lock_for(rt, share);
+        locked.settle(alloc, share, worker, checked)
     }
 
-    /// Waits for the lock and copies the unsettled part of the board, which has at least the share's amount settled. The
-    /// only error is `Memory`.
+    /// Waits for the lock and copies the unsettled part of the board, which has the entries of the opening and at least the
+    /// share's amount settled. The only error is `Memory`.
     pub fn copy<R: Wait>(
         &self,
         rt: &R,
         alloc: Global,
         share: &Share<L>,
     ) -> Result<Copied<'g>, Memory>
-        ensures some { IfOk result (λ c. IsCopyOfSome share.now c) }
+        ensures some { IfOk result (λ c. IsCopyOfSome L.opened share.now c) }
     {
         let locked = self.lock_for(rt, share);
         locked.board.copy(alloc)
@@ -190,8 +207,7 @@ impl<'g, L: Ledger> Office<'g, L> {
         rt: &R,
         share: &Share<L>,
     ) -> MutexGuard<'a, LockedBoard<'g, L>>
-        ensures board { IsLawfulBoard (mutex_guard_value result).board }
-        ensures settled { share.now ≤ number_settled (mutex_guard_value result).board.journal }
+        ensures { IsOfOffice L.opened share.now (mutex_guard_value result).board }
     {
         for _ in rt.forever() {
             let locked = self.locked.lock(rt);
@@ -203,15 +219,18 @@ impl<'g, L: Ledger> Office<'g, L> {
     }
 }
 
-/// The state under the lock: the board, and the book, which is the number settled.
+/// The state under the lock: the board, and the book, which is the number settled. The board has the game of the opening, and
+/// its journal begins with the entries of the opening.
 #[derive(Drop)]
-pub(crate) struct LockedBoard<'g, L: Ledger> {
+pub(crate) struct LockedBoard<'g, L: Opening> {
     board: Board<'g>,
     book: Book<L>,
     ghost exact: { book.total ≡ number_settled board.journal },
+    ghost game: { board.graph ≡ L.opened.graph },
+    ghost begins: { BeginsWith L.opened.journal board.journal },
 }
 
-impl<'g, L: Ledger> LockedBoard<'g, L> {
+impl<'g, L: Opening> LockedBoard<'g, L> {
     /// The call of this board, with this worker's number. The share and the book rise by the number that it settles.
     fn post(
         &mut self,
@@ -220,8 +239,7 @@ impl<'g, L: Ledger> LockedBoard<'g, L> {
         worker: u32,
         claim: &Claim,
     ) -> Result<u32, Refusal>
-        requires board { IsLawfulBoard self.old.board }
-        requires settled { share.old ≤ number_settled self.old.board.journal }
+        requires { IsOfOffice L.opened share.old self.old.board }
         ensures answer { Through (IsPostAnswer self.old.board self.new.board worker claim.now) result }
         ensures raised { IsRaised share.old share.new result }
     {
@@ -238,8 +256,7 @@ impl<'g, L: Ledger> LockedBoard<'g, L> {
         worker: u32,
         checked: &Checked,
     ) -> Result<u32, Refusal>
-        requires board { IsLawfulBoard self.old.board }
-        requires settled { share.old ≤ number_settled self.old.board.journal }
+        requires { IsOfOffice L.opened share.old self.old.board }
         ensures answer { Through (IsSettleAnswer self.old.board self.new.board worker checked.now) result }
         ensures raised { IsRaised share.old share.new result }
     {

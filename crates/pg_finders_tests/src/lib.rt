@@ -1,4 +1,4 @@
-//! The tests of `pg_dominion` and `pg_finders`, which calls them as any other crate does.
+//! The tests of `pg_finders`, which calls it as any other crate does.
 #![tactic(auto)]
 
 #[cfg(test)]

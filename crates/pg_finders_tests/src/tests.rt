@@ -1,6 +1,10 @@
-//! Tests of `pg_dominion` and `pg_finders`. They are in one crate, since what a check takes before its
-//! first proof is a fifth of what the tests of one library take.
+//! Worked games and hostile ones, and what no clause says: that a search continues until its budget is used, how many
+//! steps the recursion takes, and what `Standard` gives for a job.
 
 mod asserting;
-mod dominion;
-mod finders;
+mod bounds;
+mod claims;
+mod games;
+mod readme;
+mod searches;
+mod standard;

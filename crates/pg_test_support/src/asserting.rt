@@ -22,3 +22,22 @@ macro_rules! check {
         crate::tests::asserting::holds(&$rt, $is_so, $at)
     };
 }
+
+/// What a call returns, made once more if it was refused memory; the last argument is that error, where the call
+/// has others. `tests/program/refused_calls.py` of the repository runs each test whose name ends in
+/// `after_a_refusal` with one allocation after another refused.
+#[macro_export]
+macro_rules! twice {
+    ($call:expr $(,)?) => {
+        match $call {
+            Err(_) => $call,
+            answer => answer,
+        }
+    };
+    ($call:expr, $memory:pat $(,)?) => {
+        match $call {
+            Err($memory) => $call,
+            answer => answer,
+        }
+    };
+}

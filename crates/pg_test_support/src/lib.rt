@@ -10,5 +10,5 @@ mod sets;
 
 pub use draft::{Draft, EVEN, ODD, Plain, Row, Vertex, game_of, game_of_sets, own_loops, size_of};
 pub use memory::{lacking, needed};
-pub use random::Random;
+pub use random::{Random, random_game};
 pub use sets::{bit, has, mask_of};

@@ -1,4 +1,4 @@
-//! How a test ends where memory is refused to what it needs itself. `tests/refused_calls.py` of the
+//! How a test ends where memory is refused to what it needs itself. `tests/program/refused_calls.py` of the
 //! repository knows the message.
 
 use std::test::Fail;

@@ -1,4 +1,9 @@
-//! Numbers that look random.
+//! Numbers that look random, and games of them.
+
+use crate::draft::{EVEN, ODD, Plain};
+use crate::sets::bit;
+use pg_game::Memory;
+use std::alloc::Global;
 
 /// The same in each run that begins with the same seed.
 #[derive(Drop)]
@@ -20,4 +25,16 @@ impl Random {
         let number = ((self.state >> 33) & 0x7fff_ffff) as u32;
         number % n.max(1)
     }
+}
+
+/// A game of eight to 28 vertices with priorities below 10, which mostly leaves something to the recursion.
+pub fn random_game(alloc: Global, random: &mut Random) -> Result<Vec<Plain>, Memory> {
+    let n = random.below(21).saturating_add(8);
+    let mut vertices = Vec::new(alloc);
+    for _v in 0..n {
+        let owner = if random.below(2) == 0 { EVEN } else { ODD };
+        let successors = bit(random.below(n)) | bit(random.below(n));
+        vertices.push((random.below(10), owner, successors))?;
+    }
+    Ok(vertices)
 }

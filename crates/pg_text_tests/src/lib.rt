@@ -1,4 +1,4 @@
-//! The tests of `pg_game` and `pg_text`, which calls them as any other crate does.
+//! The tests of `pg_text`, which calls it as any other crate does.
 #![tactic(auto)]
 
 #[cfg(test)]

@@ -1,6 +1,7 @@
-//! Tests of `pg_game` and `pg_text`. They are in one crate, since what a check takes before its
-//! first proof is a fifth of what the tests of one library take.
+//! Worked texts, what is refused, and the lines of faults. More texts are tested of the built program.
 
 mod asserting;
-mod game;
-mod text;
+mod faults;
+mod readme;
+mod refusals;
+mod texts;

@@ -52,7 +52,7 @@ use Rattle.pg_workers.specs.declared.known.SolveFault.TheVariants as fault
 use Rattle.pg_board.proofs.OwnEntries.{both_of_caller, none_later, one_later, continued, keeps_state}
 
 -- what is known is known of vertices
-pub known_below : (known : KnownRows) (p : Player) (v : ℕ) → known_of known p v ≡ true → v < length known
+known_below : (known : KnownRows) (p : Player) (v : ℕ) → known_of known p v ≡ true → v < length known
 known_below [] p v i = absurd (cc i)
 known_below (r ∷ known) p zero i = omega arith
 known_below (r ∷ known) p (suc v) i = let h = known_below known p v i in omega arith

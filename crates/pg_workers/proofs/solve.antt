@@ -1,3 +1,2 @@
 -- Lemmas of the proofs of `solve`.
 pub mod SettledSum
-pub mod DroppedPosts

@@ -1,11 +1,10 @@
 //! What the calling thread posts before a worker starts, as worker 0: what is known of the game, Even's claim and then Odd's.
 
-ghost use Rattle.std.specs.Prelude.{◌≡◌, ◌≤◌, ◌<◌, ◌↔◌, length, Some, IfOk, IfErr, IsTrue, option_map, slice_get};
+ghost use Rattle.std.specs.Prelude.{◌≡◌, ◌≤◌, ◌<◌, length, Some, IfOk, IfErr, option_map, slice_get};
 ghost use Rattle.pg_game.specs.Graph.{id_of};
 ghost use Rattle.pg_text.specs.Known.{known_at};
-ghost use Rattle.pg_board.specs.Journal.{state_of};
-ghost use Rattle.pg_workers.specs.KnownRegions.{known_rows, HasNone, IsSolveFault, KeepsKnown, Names};
-ghost use Rattle.pg_workers.specs.private.KnownPosts.{fault_of, HasKnown, IsKnownFault, KeepsRow, SettlesKnown};
+ghost use Rattle.pg_workers.specs.KnownRegions.{known_rows, HasNone, IsSolveFault, Names};
+ghost use Rattle.pg_workers.specs.private.KnownPosts.{fault_of, HasKnown, IsKnownFault, SettlesKnown};
 
 use pg_board::{Board, Refusal};
 use pg_dominion::{Claim, ClaimFault, own_choice};
@@ -128,32 +127,6 @@ fn with_known<'g>(
     match board.post(alloc, 0, &claim) {
         Ok(_) => Ok(board),
         Err(refusal) => Err(solve_fault(player, refusal)),
-    }
-}
-
-/// Whether what is known is settled so on the board: the winner, and the choice at a vertex that the winner owns.
-pub(crate) fn keeps_known(board: &Board<'_>, of: &KnownOf<'_>) -> bool
-    ensures { IsTrue result ↔ KeepsKnown of.now.game.now of.now.known.now.rows (state_of board.now.journal) }
-{
-    for v in 0..of.game.len() {
-        if !keeps_row(board, of, v) {
-            return false;
-        }
-    }
-    true
-}
-
-/// The same for one vertex.
-fn keeps_row(board: &Board<'_>, of: &KnownOf<'_>, v: u32) -> bool
-    requires { v < length of.now.game.now }
-    ensures { IsTrue result ↔ KeepsRow of.now.game.now of.now.known.now.rows (state_of board.now.journal) v }
-{
-    match known_at(of.known, v) {
-        Some(row) => {
-            let own = own_choice(of.game.forward(), row.0, v, row.1);
-            board.winner(v) == Some(row.0) && board.choice(v) == own
-        }
-        None => true,
     }
 }
 

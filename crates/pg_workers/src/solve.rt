@@ -4,27 +4,26 @@
 ghost use Rattle.std.specs.Prelude.{◌≡◌, ◌+◌, ◌≤◌, ℕ, IfOk, IfErr, length, replicate, vec_len};
 ghost use Rattle.pg_text.specs.Known.{KnownRows};
 ghost use Rattle.pg_workers.specs.Outcomes.{IsOutcome};
-ghost use Rattle.pg_board.specs.Journal.{number_settled, state_of};
+ghost use Rattle.pg_board.specs.Journal.{number_settled, state_of, BeginsWith};
 ghost use Rattle.pg_workers.specs.KnownRegions.{IsSolveFault, KeepsKnown};
-ghost use Rattle.pg_workers.specs.private.KnownPosts.{HasSettled};
-ghost use Rattle.pg_workers.specs.private.Report.{KeepsReport};
+ghost use Rattle.pg_workers.specs.private.KnownPosts.{HasKnown, HasSettled};
 ghost use Rattle.pg_workers.specs.Report.{IsInOrder, IsReport, settled_in};
 ghost use Rattle.pg_workers.specs.Tickets.{fresh};
 ghost use Rattle.pg_board.specs.Work.{total_of};
 
 use crate::jobs::{Jobs, Ticket};
-use crate::known::{KnownOf, SolveFault, board_with, keeps_known};
-use crate::report::{ReportRow, blank_report, with_no_posts, with_rows};
+use crate::known::{KnownOf, SolveFault, board_with};
+use crate::report::{ReportRow, blank_report, with_rows};
 use crate::threads::{new_workers, start_all, take_apart};
 use crate::worker::{Gate, RunJobs, Setup, Task};
-use pg_board::{Board, Entry, Office, Options, Share};
+use pg_board::{Board, Entry, Office, Opening, Options, Share};
 use pg_finders::Finder;
 use pg_game::{Game, Memory};
 use pg_text::{Known, Solution};
 use std::alloc::Global;
 use std::marker::{Brand, PhantomData};
 use std::sync::Wait;
-use std::sync::ledger::{Blank, Ledger};
+use std::sync::ledger::Blank;
 use std::thread::Threads;
 
 /// The outcome of a run: a solution of the game, the journal that led to it, and the results of each job.
@@ -55,32 +54,36 @@ pub fn solve_game<R: Threads + Wait + Sync>(
     ensures outcome { IfOk result (λ o. IsOutcome game.now known.now.rows (total_of options.now.bound (length game.now)) options.now.workers o) }
     ensures fault { IfErr result (λ e. IsSolveFault game.now known.now.rows e) }
 {
+    let start = KnownOf { game, known };
+    let board = board_with(alloc, &start)?;
     let blank = Blank::new(u64::from(options.workers) + 1);
     let setup = Setup {
         rt,
         alloc,
         options,
-        start: &KnownOf { game, known },
+        start: &start,
         gate,
         finder,
     };
-    solve_on::<Brand, _, _, R>(&setup, blank)
+    Ok(solve_on::<Brand, _, _, R>(&setup, board, blank)?)
 }
 
-/// A run over an office of its game, with a ledger made of this blank.
-fn solve_on<L: Ledger + Send + Sync, G: Gate, F: Finder, R: Threads + Wait + Sync>(
+/// A run over an office of a board with what is known, with a ledger made of this blank. The only error is `Memory`.
+fn solve_on<L: Opening + Send + Sync, G: Gate, F: Finder, R: Threads + Wait + Sync>(
     setup: &Setup<'_, G, F, R>,
+    board: Board<'_>,
     blank: Blank,
-) -> Result<Outcome, SolveFault>
+) -> Result<Outcome, Memory>
     requires name { blank.name ≡ L.name }
     requires parts { (blank.parts ≡ L.parts) × (blank.parts ≡ setup.now.options.now.workers + 1) }
-    ensures outcome { IfOk result (λ o. IsOutcome setup.now.start.now.game.now setup.now.start.now.known.now.rows
+    requires opened { board ≡ L.opened }
+    requires game { board.graph ≡ setup.now.start.now.game.now }
+    requires known { HasKnown setup.now.start.now.game.now setup.now.start.now.known.now.rows board.journal }
+    ensures { IfOk result (λ o. IsOutcome setup.now.start.now.game.now setup.now.start.now.known.now.rows
         (total_of setup.now.options.now.bound (length setup.now.start.now.game.now)) setup.now.options.now.workers o) }
-    ensures fault { IfErr result (λ e. IsSolveFault setup.now.start.now.game.now setup.now.start.now.known.now.rows e) }
 {
     let alloc = setup.alloc;
     let workers = setup.options.workers;
-    let board = board_with(alloc, setup.start)?;
     let (office, mut shares) = Office::<L>::open_with(alloc, blank, board, workers + 1)?;
     let first = shares.remove(0);
     let total = setup.options.total(setup.start.game.len());
@@ -88,15 +91,14 @@ fn solve_on<L: Ledger + Send + Sync, G: Gate, F: Finder, R: Threads + Wait + Syn
     let (closed, report) = run_workers::<L, Brand, G, F, R>(
         setup, office, first, shares, jobs, tickets,
     )?;
-    let (own, report) = on_own_game(alloc, setup.start, closed, report)?;
-    Ok(outcome_of(alloc, own, report)?)
+    outcome_of(alloc, closed, report)
 }
 
 /// The workers' part, on a new office and new jobs: the closed board, and the results of each job. The first share is no
 /// worker's.
 fn run_workers<
     'g,
-    L: Ledger + Send + Sync,
+    L: Opening + Send + Sync,
     J: RunJobs + Send + Sync,
     G: Gate,
     F: Finder,
@@ -114,6 +116,7 @@ fn run_workers<
     requires jobs { (jobs.series ≡ J.series) × (jobs.seats ≡ vec_len shares) }
     requires workers { (vec_len shares ≡ J.workers) × (1 ≤ J.workers) × (J.workers ≤ 64) }
     requires tickets { tickets.items ≡ replicate (vec_len shares) (fresh J.series) }
+    ensures board { IfOk result (λ r. (r.0.graph ≡ L.opened.graph) × BeginsWith L.opened.journal r.0.journal) }
     ensures order { IfOk result (λ r. IsInOrder J.series.total r.1.items) }
     ensures rows { IfOk result (λ r. IsReport J.workers r.1.items) }
     ensures settled { IfOk result (λ r. settled_in r.1.items + first ≡ number_settled r.0.journal) }
@@ -138,30 +141,6 @@ fn run_workers<
     shares.push_reserved(first);
     let board = office.close(shares);
     Ok((board, with_rows(report, rows.as_slice())))
-}
-
-/// The closed board and its report if the board is of this game and keeps what is known. Otherwise a new board with the known
-/// sets alone, and the report without posts.
-fn on_own_game<'g>(
-    alloc: Global,
-    of: &KnownOf<'g>,
-    board: Board<'g>,
-    report: Vec<ReportRow>,
-) -> Result<(Board<'g>, Vec<ReportRow>), SolveFault>
-    requires { HasSettled of.now.game.now of.now.known.now.rows report.items board.journal }
-    ensures same { board.entry.graph ≡ of.now.game.now → KeepsKnown of.now.game.now of.now.known.now.rows (state_of board.entry.journal)
-        → IfOk result (λ r. (r.0.journal ≡ board.entry.journal) × (r.1.items ≡ report.items)) }
-    ensures game { IfOk result (λ r. r.0.graph ≡ of.now.game.now) }
-    ensures kept { IfOk result (λ r. KeepsKnown of.now.game.now of.now.known.now.rows (state_of r.0.journal)) }
-    ensures settled { IfOk result (λ r. HasSettled of.now.game.now of.now.known.now.rows r.1.items r.0.journal) }
-    ensures report { IfOk result (λ r. KeepsReport report.items r.1.items) }
-    ensures fault { IfErr result (λ e. IsSolveFault of.now.game.now of.now.known.now.rows e) }
-{
-    if *board.game() == *of.game && keeps_known(&board, of) {
-        return Ok((board, report));
-    }
-    let board = board_with(alloc, of)?;
-    Ok((board, with_no_posts(report)))
 }
 
 /// The solution and the entries of a full board.

@@ -10,19 +10,18 @@ ghost use Rattle.pg_workers.specs.Tickets.{fresh};
 use crate::jobs::Ticket;
 use crate::report::ReportRow;
 use crate::worker::{Gate, RunJobs, Task, Worker};
-use pg_board::Share;
+use pg_board::{Opening, Share};
 use pg_finders::Finder;
 use pg_game::Memory;
 use std::alloc::Global;
 use std::marker::PhantomData;
 use std::slice::IterMut;
 use std::sync::Wait;
-use std::sync::ledger::Ledger;
 use std::thread;
 use std::thread::{Scope, Threads};
 
 /// A worker for each pair of a share and a ticket, numbered from 1, with capacity for a row for each job.
-pub(crate) fn new_workers<L: Ledger, J: RunJobs>(
+pub(crate) fn new_workers<L: Opening, J: RunJobs>(
     alloc: Global,
     total: u64,
     mut shares: Vec<Share<L>>,
@@ -57,7 +56,7 @@ pub(crate) fn new_workers<L: Ledger, J: RunJobs>(
 pub(crate) fn start_all<
     'x,
     'g,
-    L: Ledger + Send + Sync,
+    L: Opening + Send + Sync,
     J: RunJobs + Send + Sync,
     G: Gate,
     F: Finder,
@@ -73,7 +72,7 @@ pub(crate) fn start_all<
 }
 
 /// Shares, tickets and rows of all workers, in lists with enough capacity.
-pub(crate) fn take_apart<L: Ledger, J: RunJobs>(
+pub(crate) fn take_apart<L: Opening, J: RunJobs>(
     mut workers: Vec<Worker<L, J>>,
     mut shares: Vec<Share<L>>,
     mut tickets: Vec<Ticket>,
@@ -109,7 +108,7 @@ fn start_each<
     'x: 's,
     'g,
     E,
-    L: Ledger + Send + Sync,
+    L: Opening + Send + Sync,
     J: RunJobs + Send + Sync,
     G: Gate,
     F: Finder,

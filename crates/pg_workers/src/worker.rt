@@ -11,14 +11,13 @@ ghost use Rattle.pg_workers.specs.private.Report.{AreCounted, IsClaimAnswer, IsW
 use crate::jobs::{Jobs, Ticket};
 use crate::known::KnownOf;
 use crate::report::ReportRow;
-use pg_board::{Office, Options, Refusal, Share};
+use pg_board::{Office, Opening, Options, Refusal, Share};
 use pg_dominion::{Claim, check_claim};
 use pg_finders::{Finder, Found};
 use pg_game::{Game, Memory};
 use std::alloc::{AllocError, Global};
 use std::marker::{Brand, PhantomData};
 use std::sync::Wait;
-use std::sync::ledger::Ledger;
 
 /// A worker calls it for each job before it posts the claims, and after. No contract promises anything of it.
 pub trait Gate: Sync {
@@ -69,7 +68,7 @@ pub(crate) struct Setup<'x, G, F, R> {
 
 /// What all workers of a run share.
 #[derive(Drop)]
-pub(crate) struct Task<'x, 'g, L: Ledger, J: RunJobs, G, F, R> {
+pub(crate) struct Task<'x, 'g, L: Opening, J: RunJobs, G, F, R> {
     pub setup: &'x Setup<'x, G, F, R>,
     pub office: &'x Office<'g, L>,
     pub jobs: &'x Jobs,
@@ -80,7 +79,7 @@ pub(crate) struct Task<'x, 'g, L: Ledger, J: RunJobs, G, F, R> {
 
 /// What one worker has. The calling thread lends it to the worker's thread; afterwards only this type says what it is.
 #[derive(Drop)]
-pub(crate) struct Worker<L: Ledger, J: RunJobs> {
+pub(crate) struct Worker<L: Opening, J: RunJobs> {
     pub number: u32,
     pub share: Share<L>,
     pub ticket: Ticket,
@@ -95,7 +94,7 @@ pub(crate) struct Worker<L: Ledger, J: RunJobs> {
     ghost spare: { J.series.total ≤ vec_capacity rows },
 }
 
-impl<L: Ledger, J: RunJobs> Worker<L, J> {
+impl<L: Opening, J: RunJobs> Worker<L, J> {
     /// A worker's whole run: it ends once a draw has found no job left.
     pub(crate) fn work<G: Gate, F: Finder, R: Wait>(&mut self, task: &Task<'_, '_, L, J, G, F, R>)
         ensures { self.new.ticket.told_none ≡ true }
@@ -128,7 +127,7 @@ impl<L: Ledger, J: RunJobs> Worker<L, J> {
     }
 }
 
-impl<'x, 'g, L: Ledger, J: RunJobs, G: Gate, F: Finder, R: Wait> Task<'x, 'g, L, J, G, F, R> {
+impl<'x, 'g, L: Opening, J: RunJobs, G: Gate, F: Finder, R: Wait> Task<'x, 'g, L, J, G, F, R> {
     /// Does one job and returns its row. The share's amount rises by the number settled.
     fn do_job(&self, share: &mut Share<L>, worker: u32, number: u64) -> ReportRow
         requires { number < J.series.total }
@@ -143,9 +142,10 @@ impl<'x, 'g, L: Ledger, J: RunJobs, G: Gate, F: Finder, R: Wait> Task<'x, 'g, L,
         row
     }
 
-    /// The result of the search for the job of this number on a copy, and the copy's game.
+    /// The result of the search for the job of this number on a copy, and the copy's game, which is the office's.
     fn search_copy(&self, share: &Share<L>, number: u64) -> Result<(Found, &'g Game), Memory>
         requires { number < J.series.total }
+        ensures { IfOk result (λ r. r.1.now ≡ L.opened.graph) }
     {
         let setup = self.setup;
         let job = setup.options.job(setup.start.game.len(), number);
@@ -206,7 +206,7 @@ impl<'x, 'g, L: Ledger, J: RunJobs, G: Gate, F: Finder, R: Wait> Task<'x, 'g, L,
         game: &Game,
         claim: &Claim,
     ) -> Result<u32, Refusal>
-        ensures answer { IsClaimAnswer share.old worker game.now claim.now result }
+        ensures answer { IsClaimAnswer L.opened share.old worker game.now claim.now result }
         ensures raised { IsRaised share.old share.new result }
     {
         let Setup { rt, alloc, .. } = self.setup;

@@ -1,4 +1,4 @@
-//! The tests of `pg_board` and `pg_workers`, which calls them as any other crate does.
+//! The tests of `pg_workers`, which calls it as any other crate does.
 #![tactic(auto)]
 
 #[cfg(test)]

@@ -1,6 +1,17 @@
-//! Tests of `pg_board` and `pg_workers`. They are in one crate, since what a check takes before its first proof is a fifth of
-//! what the tests of one library take.
+//! Runs with threads: what workers are given and what they note, in random orders too, and tickets.
 
+mod alone;
 mod asserting;
-mod board;
-mod workers;
+mod draws;
+mod finders;
+mod games;
+mod gates;
+mod known;
+mod memory;
+mod numbers;
+mod readme;
+mod reports;
+mod runs;
+mod schedules;
+mod starts;
+mod threads;

@@ -24,6 +24,8 @@ import traceback
 undo = None
 # while something is begun, signals wait
 _begun, _waiting = [], []
+# what is done at present, the innermost last
+_works = []
 
 
 def _end(number, _):
@@ -120,21 +122,24 @@ def in_memory(data=b""):
 
 def child(words, given=b"", timeout=None, **how):
     """Runs a program: its status, what it has written, and what it has said. Raises Refused after so many
-    seconds.
+    seconds, or where a signal has ended it; then what it has said follows.
     """
     with begun(words, **dict.fromkeys(("stdin", "stdout", "stderr"), subprocess.PIPE), **how) as process:
         try:
             out, said = process.communicate(given, timeout)
-        except subprocess.TimeoutExpired:
-            raise Refused(f"after {timeout:g} s it is not solved", LATE) from None
+        except subprocess.TimeoutExpired as late:
+            raise Refused(f"after {timeout:g} s it is not solved", LATE, said=late.stderr) from None
     if process.returncode < 0:
-        raise Refused(f"{words[0]} was ended by signal {-process.returncode}", FILE)
+        raise Refused(f"{words[0]} was ended by signal {-process.returncode}", FILE, said=said)
     return process.returncode, out, said.decode(errors="backslashreplace")
 
 
 def printable(text):
-    """A text in which each character that doesn't print, as a line feed, is spelled out."""
-    return "".join(it if it.isprintable() else ascii(it)[1:-1] for it in text)
+    """A text in which each character that doesn't print, as a line feed, is spelled out, and each byte that
+    is no text.
+    """
+    spelled = lambda it: ascii(it)[1:-1].replace("\\udc", "\\x")
+    return "".join(it if it.isprintable() else spelled(it) for it in text)
 
 
 def shown(text):
@@ -153,11 +158,12 @@ def line_of(text, at):
 
 class Refused(Exception):
     """Why there is no answer: one line, and the status. Where a place (path, text, offset) is given, its
-    line and a mark follow.
+    line and a mark follow, and then what another program has said.
     """
 
-    def __init__(self, why, status=TEXT, place=None):
-        self.status, self.lines, self.place = status, [], place
+    def __init__(self, why, status=TEXT, place=None, said=b""):
+        self.status, self.place = status, place
+        self.lines = (said or b"").decode(errors="backslashreplace").splitlines()
         if place:
             path, text, at = place
             begin = text.rfind("\n", 0, at) + 1
@@ -171,7 +177,7 @@ class Refused(Exception):
                     text[at:][: MOST_SHOWN if ends < 0 else min(MOST_SHOWN, ends - at)],
                 )
             )
-            self.lines = [f"  {before}{after}".rstrip(), " " * (2 + len(before)) + "^"]
+            self.lines[:0] = [f"  {before}{after}".rstrip(), " " * (2 + len(before)) + "^"]
         super().__init__(printable(why))
 
     def said(self, name):
@@ -190,6 +196,10 @@ def run(name, main):
     try:
         sys.exit(begin(main))
     except Exception as error:
+        if isinstance(error, BrokenPipeError):
+            # a filter whose reader has ended says nothing
+            signal.signal(signal.SIGPIPE, signal.SIG_DFL)
+            os.kill(os.getpid(), signal.SIGPIPE)
         fault = fault_of(error)
     try:
         sys.stderr.write(fault.said(name))
@@ -203,14 +213,26 @@ def begin(main):
     for stream, spelled in ((sys.stdin, "standard input"), (sys.stdout, "standard output")):
         if stream is None:
             raise Refused(f"{spelled} is closed", FILE)
-    sys.stdout.reconfigure(encoding="utf-8", errors="surrogateescape")
-    sys.setrecursionlimit(10_000)
+    # (it writes all or raises, and Python's own does not under -u)
+    sys.stdout = open(1, "w", encoding="utf-8", errors="surrogateescape", closefd=False)
     # what a command makes lasts to its end, and to look for what does not takes as long as to make it
     gc.disable()
     try:
-        return main(sys.argv[1:])
+        with deep():
+            return main(sys.argv[1:])
     finally:
         sys.stdout.flush()
+
+
+@contextlib.contextmanager
+def deep():
+    """Calls may be as deep inside each other as texts that are read are."""
+    before = sys.getrecursionlimit()
+    sys.setrecursionlimit(max(before, 10_000))
+    try:
+        yield
+    finally:
+        sys.setrecursionlimit(before)
 
 
 # with these a write failed
@@ -234,32 +256,30 @@ def fault_of(error):
     return fault
 
 
-def progress(text):
-    if sys.stderr.isatty():
-        print(f"\r\x1b[K{text}", end="", file=sys.stderr, flush=True)
-
-
 @contextlib.contextmanager
 def working(what):
-    """Shows on a terminal each second what this command does, and for how long."""
+    """Shows on a terminal each second what this command does, and for how long: what was yielded last, whose
+    text may change.
+    """
     if undo is None or not sys.stderr.isatty():
-        yield
+        yield [what]
         return
-    begun_at, shown_at = time.monotonic(), []
-
-    def show(*_):
-        shown_at.append(int(time.monotonic() - begun_at))
+    if not _works:
+        begun_at = time.monotonic()
         # (the signal may come while something is printed)
-        os.write(2, f"\r\x1b[Kpgboard: {printable(what)}, {shown_at[-1]} s".encode())
-
-    signal.signal(signal.SIGALRM, show)
-    signal.setitimer(signal.ITIMER_REAL, 1, 1)
+        say = lambda text: os.write(2, f"\r\x1b[K{text}".encode())
+        show = lambda *_: say(f"pgboard: {printable(_works[-1][0])}, {int(time.monotonic() - begun_at)} s")
+        signal.signal(signal.SIGALRM, show)
+        signal.setitimer(signal.ITIMER_REAL, 1, 1)
+    _works.append([what])
     try:
-        yield
+        yield _works[-1]
     finally:
-        signal.setitimer(signal.ITIMER_REAL, 0)
-        if shown_at:
-            progress("")
+        _works.pop()
+        if not _works:
+            signal.setitimer(signal.ITIMER_REAL, 0)
+            if time.monotonic() - begun_at >= 1:
+                say("")
 
 
 class Parser(argparse.ArgumentParser):
@@ -331,24 +351,45 @@ def pieces(path, file):
 
 
 def write(path, data):
-    """Writes a text or bytes to a file, which a fault names. Until all is written, one that is there stays."""
+    """Writes a text or bytes to a file, which a fault names. Until all is written, one that is there stays,
+    but where its folder takes no other.
+    """
     data = data if isinstance(data, bytes) else data.encode("utf-8", "surrogateescape")
-    place = os.path.realpath(path)
     # (what is no file, as a device, can't be replaced; and /dev/stdout is a file that others have open)
-    is_stream = os.path.exists(place) and not os.path.isfile(place) or path.startswith(("/dev/", "/proc/"))
+    is_stream = os.path.exists(path) and not os.path.isfile(path) or path.startswith(("/dev/", "/proc/"))
     try:
-        if is_stream:
+        if is_stream or not replaced(os.path.realpath(path) if path else "", data):
             with open(path, "wb") as file:
                 file.write(data)
-            return
-        with undone(lambda: open(f"{place}.{os.getpid()}", "xb"), removed) as file, file:
-            if os.path.exists(place):
-                os.chmod(file.name, os.stat(place).st_mode & 0o7777)
+    except OSError as error:
+        raise Refused(f"{path or repr(path)}: {error.strerror}", FILE) from None
+
+
+def replaced(place, data):
+    """Whether a file was made that replaces the one of this place, of the same owner and mode; False where
+    the folder takes none.
+    """
+    is_there = os.path.exists(place)
+    if is_there:
+        # (this raises what keeps us from writing there)
+        os.close(os.open(place, os.O_WRONLY))
+    # (a longer name than the file's may be too long)
+    new = os.path.join(os.path.dirname(place), f"pgboard.{os.urandom(6).hex()}")
+    try:
+        with undone(lambda: open(new, "xb"), removed) as file, file:
+            if is_there:
+                of = os.stat(place)
+                with contextlib.suppress(PermissionError):
+                    os.chown(new, of.st_uid, of.st_gid)
+                os.chmod(new, of.st_mode & 0o7777)
             file.write(data)
             file.close()
-            os.replace(file.name, place)
+            os.replace(new, place)
     except OSError as error:
-        raise Refused(f"{path}: {error.strerror}", FILE) from None
+        if is_there and error.errno in (errno.EACCES, errno.EPERM, errno.EROFS):
+            return False
+        raise
+    return True
 
 
 def removed(file):

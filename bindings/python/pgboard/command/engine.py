@@ -12,7 +12,7 @@ import sys
 import time
 from typing import NamedTuple, Optional
 
-from . import FILE, LATE, TEXT, Refused, child, in_memory, progress, shown, working
+from . import FILE, LATE, TEXT, Refused, child, in_memory, shown, working
 from .games import Solution, solution_of
 
 TOP = os.path.abspath(os.path.join(os.path.dirname(__file__), "..", "..", "..", ".."))
@@ -31,8 +31,6 @@ SAID = {
     "Lost": "{} is lost",
     "Stale": "all of it is settled already",
 }
-# in seconds, how often a line of progress is shown
-PAUSE = 0.2
 
 
 class Solved(NamedTuple):
@@ -67,15 +65,43 @@ def engine():
         return Program(why)
 
 
+@functools.lru_cache(maxsize=None)
+def warn():
+    """Says of the library what ./pgboard says of its program, once."""
+    from .. import library
+
+    path, is_unproved = library.path_of_library(), library.build().startswith("unproved")
+    # (a source may go meanwhile)
+    with contextlib.suppress(OSError):
+        if path in library.BUILT and is_stale(path):
+            flag = "--unproved " * is_unproved
+            said = f"the sources have changed since this build; ./pgboard {flag}--library builds them"
+            print(f"pgboard: warning: {said}", file=sys.stderr)
+    if is_unproved:
+        said = "no proof was made of this build; its run-time checks are on"
+        print(f"pgboard: unproved: {said}", file=sys.stderr)
+
+
+def is_stale(path):
+    """Whether a source of the library is newer: of the crates in the first part of the list, but the program's."""
+    with open(os.path.join(TOP, "crates.txt"), encoding="utf-8") as file:
+        crates = re.findall(r"(?m)^(\w+)(?: staticlib)?:", file.read().partition("\n\n")[0])
+    of_library = [it for it in crates if it not in ("pgboard", "pgboard_program")]
+    folders = [os.path.join(TOP, "crates", it, "src") for it in of_library]
+    sources = (os.path.join(at, it) for top in folders for at, _, files in os.walk(top) for it in ("", *files))
+    return max((os.stat(it).st_mtime for it in sources), default=0) > os.stat(path).st_mtime
+
+
 def solved(game, known=None, timeout=None, partial=False, until=None):
     """Solves a game, from what is known of it, and verifies the solution. Late without one where so many
     seconds were not enough. The library ends once it has settled the vertex `until`.
     """
     begun = time.monotonic()
-    solution, is_whole, entries = engine().solve(game, known, timeout, partial, until)
-    found = Solved(solution, is_whole, time.monotonic() - begun, entries)
-    if is_whole:
-        verify(game, solution)
+    with working("solves"):
+        solution, is_whole, entries = engine().solve(game, known, timeout, partial, until)
+        found = Solved(solution, is_whole, time.monotonic() - begun, entries)
+        if is_whole:
+            verify(game, solution)
     return found
 
 
@@ -100,6 +126,7 @@ class Table:
     def __init__(self, game):
         from .. import calls
 
+        warn()
         self.calls, self.game, (self.ids, *self.arrays) = calls, game, game.arrays()
         self.number = {id: v for v, id in enumerate(self.ids)}
 
@@ -128,6 +155,7 @@ class Library:
     """Solves on a board, by slices."""
 
     def __init__(self, calls):
+        warn()
         # a game that was made to arrays, which is verified after it is solved
         self.calls, self.last = calls, None
 
@@ -145,24 +173,26 @@ class Library:
                     claim and board.post(player, claim)
                 except self.calls.RefusedClaim as fault:
                     refuse_known(known, table.said(fault, claim))
-            board._advance = watched(board, len(table.ids), table.number.get(until))
-            try:
-                board.finish(timeout=timeout)
-            except self.calls.TimedOut:
-                pass
-            finally:
-                progress("")
+            self.finish(board, timeout, table.number.get(until))
             rows, entries = table.rows(board.state()), len(board.entries)
         is_whole = len(rows) == len(table.ids)
         if not is_whole and not partial and until not in rows:
-            raise late(timeout, rows, table.ids)
+            raise late(timeout, len(rows), len(table.ids))
         return Solution(rows), is_whole, entries
 
+    def finish(self, board, timeout, until=None):
+        """Settles what is left of a board, or less where the time is over or the vertex `until` is settled."""
+        with working("solves") as work, contextlib.suppress(self.calls.TimedOut):
+            board._advance = watched(board, work, until)
+            board.finish(timeout=timeout)
+
     def solve_bytes(self, data, timeout):
-        """A solution's text, which is verified; None where more is said of the search."""
-        if timeout is not None or sys.stderr.isatty():
-            return None
-        text = self.of_texts(self.calls.solve_text, data)
+        """A solution's text, which is verified."""
+        with self.of_texts(self.calls.Board.from_text, data) as board:
+            self.finish(board, timeout)
+            if board.settled < board.vertices:
+                raise late(timeout, board.settled, board.vertices)
+            text = board.solution_text()
         check(self.verify_bytes(data, text.encode()))
         return text
 
@@ -190,20 +220,17 @@ class Library:
             raise Refused(str(fault)) from None
 
 
-def late(timeout, rows, vertices):
-    return Refused(f"after {timeout:g} s {len(rows)} of {len(vertices)} vertices are settled", LATE)
+def late(timeout, settled, vertices):
+    return Refused(f"after {timeout:g} s {settled} of {vertices} vertices are settled", LATE)
 
 
-def watched(board, count, until):
-    """Takes a slice of a board, and shows how far it is; the last one where it settles the vertex `until`."""
-    take, begun, shown_at = board._advance, time.monotonic(), 0
+def watched(board, work, until):
+    """Takes a slice of a board, and says how far it is; the last one where it settles the vertex `until`."""
+    take, vertices = board._advance, board.vertices
 
     def slice_of(steps):
-        nonlocal shown_at
-        done, now = take(steps), time.monotonic()
-        if now - shown_at >= PAUSE:
-            shown_at = now
-            progress(f"pgboard: {board.settled:,} of {count:,} vertices settled, {int(now - begun)} s")
+        done = take(steps)
+        work[0] = f"{board.settled:,} of {vertices:,} vertices settled"
         is_last = done.is_last or until is not None and board.winner(until) is not None
         return done._replace(is_last=is_last)
 
@@ -222,6 +249,8 @@ class Program:
 
     def __init__(self, why):
         self.words, self.why, self.warned = program(), why, set()
+        # (./pgboard runs the program alone: what it refuses is said here)
+        os.environ["PGBOARD_STRICT"] = "1"
 
     def run(self, *words, timeout=None):
         """The status where it is 0 or 1, what is written, and what is said. A word in bytes is a file."""
@@ -233,13 +262,7 @@ class Program:
                     held.append(files.enter_context(in_memory(word)).fileno())
                     words = [*words[:at], f"/dev/fd/{held[-1]}", *words[at + 1 :]]
             status, out, said = child([*self.words, *words], timeout=timeout, pass_fds=held)
-        left = ""
-        for line in said.splitlines(keepends=True):
-            if not line.startswith(("pgboard: unproved: ", "pgboard: warning: ")):
-                left += line
-            elif line not in self.warned:
-                self.warned.add(line)
-                sys.stderr.write(line)
+        left = self.without_warnings(said)
         if left == "pgboard: read fault\n":
             given = " and ".join(it for it in words if it.startswith("/dev/fd/"))
             left = f"{self.words[0]} can't read {given}, by which it gets what this command has read"
@@ -247,9 +270,21 @@ class Program:
             self.refuse(status, left, status)
         return status, out.decode(errors="replace"), left
 
+    def without_warnings(self, said):
+        """What is left of what the program says. Each warning is written to standard error once."""
+        left = ""
+        for line in said.splitlines(keepends=True):
+            if not line.startswith(("pgboard: unproved: ", "pgboard: warning: ")):
+                left += line
+            elif line not in self.warned:
+                self.warned.add(line)
+                sys.stderr.write(line)
+        return left
+
     def refuse(self, status, said, ends):
-        why = re.sub("^pgboard: ", "", said.strip()) or f"{self.words[0]}: status {status}"
-        raise Refused(why, ends)
+        first, _, rest = said.strip().partition("\n")
+        why = re.sub("^pgboard: ", "", first) or f"{self.words[0]}: status {status}"
+        raise Refused(why, ends, said=rest.encode())
 
     def solution(self, timeout, *words, known=None):
         status, text, said = self.run("solve", "--workers", str(self.workers), *words, timeout=timeout)
@@ -278,14 +313,14 @@ class Program:
         return self.verify_bytes(data_of(plain(game)), data_of(solution))
 
     def verify_bytes(self, *texts):
-        status, out, _ = self.run("verify", *texts)
-        if (status, out) == (0, "ok\n"):
-            return "ok"
+        status, out, left = self.run("verify", *texts)
         fault = VERDICT.fullmatch(out)
-        if not status or not fault:
+        if (status, out) != (0, "ok\n") and not (status and fault):
             said = shown(out.strip()) or "nothing"
-            raise Refused(f"this is no verdict of pgboard's: {said}, with status {status}", FILE)
-        return fault[1]
+            why = f"this is no verdict of pgboard's: {said}, with status {status}"
+            raise Refused(why, FILE, said=left.encode())
+        sys.stderr.write(left)
+        return fault[1] if fault else "ok"
 
 
 def as_it_is(name, *given):

@@ -10,7 +10,7 @@ that its owner loses gets an edge to itself.
 import re
 from array import array
 
-from . import TEXT, WORDS, Refused, called, line_of, printable, working
+from . import TEXT, WORDS, Refused, called, deep, line_of, printable, working
 from .texts import MOST, Statement, Text, blanked, text_of
 
 MOST_VERTICES, MOST_EDGES = 1_048_576, 16_777_216
@@ -70,6 +70,8 @@ def refuse_statement(text, at, line, *headers):
         text.refuse("this quote is never closed", at)
     if found[0].isdigit() and what.endswith(", 0 or 1"):
         text.refuse(f"{what.split()[1][:-1]} is not 0 or 1", at)
+    if what == "a semicolon" and found[0] and "\n" in text.text[len(text.text[:at].rstrip()) : at]:
+        text.refuse("there is no ; before this line", at)
     text.expect(what, at, found.end())
 
 
@@ -256,7 +258,7 @@ def game_of(path, rules):
 
 
 def game_of_text(path, text, rules):
-    with working(f"reads {called(path)}"):
+    with deep(), working(f"reads {called(path)}"):
         return read_game(path, text, rules)
 
 

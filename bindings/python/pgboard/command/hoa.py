@@ -9,18 +9,15 @@ Buchi's, are such ones. Whatever is not read is refused with its place.
 
 # mypy: ignore-errors
 
-import operator
 import re
 from array import array
 
 from . import WORDS, Refused, called, shown
+from .diagrams import Diagrams
 from .games import Game, place_of, reached
 from .texts import Tokens, kinds
 
-MOST_PROPOSITIONS = 14
 MOST = 10**9
-# the labels, of which each has a bit for each letter, take so many bits together
-MOST_BITS = 1 << 30
 # what reads the rest of each header that is known
 HEADERS = {
     "HOA:": "version",
@@ -57,6 +54,9 @@ class Text(Tokens):
     )
 
     def end_of(self, found):
+        if found[0] == "--ABORT--":
+            why = "the tool that wrote this has given up: what is before --ABORT-- is no automaton"
+            self.refuse(why, found.start())
         if found[0] == '"':
             ends = (it.end() for it in IN_STRING.finditer(self.text, found.end()) if it[0] == '"')
             return next(ends, None) or self.refuse("this quote is never closed", found.start())
@@ -100,20 +100,22 @@ def joined(operator, _, left, right):
 class Automaton:
     """A parity automaton or a parity game: of each state its edges, (letters, priority, target).
 
-    A letter is a number that has bit j where proposition j holds, and a set of letters is one that has bit l
-    for letter l. Priorities are those of a game in which the greatest decides, and in which even ones
-    accept. In a game `owners` has the player of each state; player 1 wins where the automaton accepts. Of an
-    automaton it is None.
+    A set of letters is a decision diagram. From the top it tests the propositions of the environment, by
+    rising numbers, and below them those of the controller, by falling numbers. Priorities are those of a game
+    in which the greatest decides, and in which even ones accept. In a game `owners` has the player of each
+    state; player 1 wins where the automaton accepts. Of an automaton it is None.
     """
 
     def __init__(self, path, text):
         self.tokens = Text(path, text)
         self.first = self.names = self.controllable = self.condition = self.owners = self.name = None
-        self.states = MOST
-        # (equal labels are one)
-        self.aliases, self.edges, self.called, self.labels, self.headers = {}, {}, {}, {}, set()
-        # where states are described, in the order of these; and of each that is not yet, where it is first named
+        self.inputs = ()
+        self.states, self.diagrams = MOST, Diagrams(f"{called(path)}: the labels")
+        self.aliases, self.edges, self.called, self.headers = {}, {}, {}, {}
+        # where states are described, in the order of these; of each that is not yet, where it is first named
         self.places, self.targets = array("I"), {}
+        # the states whose moves were checked
+        self.checked = set()
         if not self.tokens.next_is("HOA:"):
             self.tokens.refuse("expected HOA:")
         while not self.tokens.takes("--BODY--"):
@@ -124,20 +126,30 @@ class Automaton:
         if self.name and not is_parity(self.tree, *self.name[0]):
             self.tokens.refuse("the header acc-name: contradicts the header Acceptance:", self.name[1])
         if self.owners and self.states not in (MOST, len(self.owners)):
-            self.tokens.refuse(f"spot-state-player: has {len(self.owners)} players for {self.states} states")
+            why = f"spot-state-player: has {len(self.owners)} players for {self.states} states"
+            self.tokens.refuse(why, self.headers["spot-state-player:"])
         self.states = min(self.states, MOST if self.owners is None else len(self.owners))
-        while not self.tokens.takes("--END--"):
+        while not self.ends("--END--"):
             self.state()
+        self.tokens.take("--END--")
         if self.tokens.next:
             self.tokens.refuse("only one automaton is read")
-        for state in [*self.targets, self.first]:
-            if state not in self.edges:
-                self.tokens.refuse(f"state {state} is not described", self.targets.get(state))
+        for state, at in self.targets.items():
+            self.tokens.refuse(f"state {state} is not described", at)
 
     def need(self, *headers):
         for header in headers:
             if header not in self.headers:
-                self.tokens.refuse(f"there is no header {header} before this")
+                line = " ".join(["controllable-AP:", *map(str, self.inputs[-1:])])
+                cure = f": add a line such as `{line}`, with the numbers of what the controller chooses"
+                why = f"there is no header {header} before this"
+                self.tokens.refuse(why + cure * (header == "controllable-AP:"))
+
+    def ends(self, *words):
+        """Whether one of these is next, since a text doesn't end before --END--."""
+        if not self.tokens.next:
+            self.tokens.refuse("the text ends here, without its last line --END--")
+        return self.tokens.next_is(*words)
 
     def header(self):
         tokens = self.tokens
@@ -147,7 +159,7 @@ class Automaton:
         if name in HEADERS:
             if name in self.headers and name not in ("Start:", "Alias:"):
                 tokens.refuse(f"the header {name} is given twice", at)
-            self.headers.add(name)
+            self.headers[name] = at
             getattr(self, HEADERS[name])()
         elif name[0].isupper() or PLAYERS.search(name):
             # by the format, what a header with a capital letter says may not be passed over; players change a
@@ -164,31 +176,40 @@ class Automaton:
         self.states = self.tokens.number(MOST)
 
     def start(self):
+        at = self.tokens.at()
         if self.first is not None:
             self.tokens.refuse("a second first state is not read")
         self.first = self.tokens.number(MOST)
+        self.targets[self.first] = at
+        if self.tokens.next_is("&"):
+            why = "an alternating automaton, which begins in several states at once, is not read"
+            self.tokens.refuse(why)
 
     def propositions(self):
-        at, count = self.tokens.at(), self.tokens.number(MOST)
-        if count > MOST_PROPOSITIONS:
-            self.tokens.refuse(f"{count} propositions are too many: at most {MOST_PROPOSITIONS} are read", at)
-        self.names = []
-        for _ in range(count):
+        names = {}
+        for number in range(self.tokens.number(MOST)):
             at, name = self.tokens.at(), self.tokens.string()
-            if name in self.names:
+            if names.setdefault(name, number) < number:
                 self.tokens.refuse(f"the proposition {shown(name)} is given twice", at)
-            self.names.append(name)
-        self.all = (1 << (1 << count)) - 1
-        # the letters with bit j are 2^j in a row, after 2^j without it, and so on
-        self.holds = [self.all // ((1 << (1 << j)) + 1) << (1 << j) for j in range(count)]
+        self.names = list(names)
+        self.inputs = self.levels = range(len(names))
 
     def outputs(self):
-        self.controllable = []
+        controllable = {}
         while self.tokens.next_is("a number"):
             at, proposition = self.tokens.at(), self.tokens.number(len(self.names))
-            if proposition in self.controllable:
+            if proposition in controllable:
                 self.tokens.refuse(f"proposition {proposition} is given twice", at)
-            self.controllable.append(proposition)
+            controllable[proposition] = at
+        self.controllable = list(controllable)
+        self.inputs = [it for it in self.levels if it not in controllable]
+        order = [*self.inputs, *sorted(controllable, reverse=True)]
+        self.levels = sorted(self.levels, key=order.__getitem__)
+        # (until here the level of a proposition was its number)
+        diagrams, known = self.diagrams, {}
+        moved = lambda it, low, high: diagrams.choice(diagrams.variable(self.levels[it]), high, low)
+        for name, label in self.aliases.items():
+            self.aliases[name] = diagrams.fold(label, lambda leaf: leaf, moved, known=known)
 
     def players(self):
         self.owners = []
@@ -200,11 +221,11 @@ class Automaton:
         if name[0] != "@" or name in self.aliases:
             why = "is defined twice" if name in self.aliases else "does not begin with @"
             self.tokens.refuse(f"the alias {shown(name)} {why}", at)
-        self.aliases[name] = self.kept(self.label())
+        self.aliases[name] = self.label()
 
     def acceptance(self):
         at, count = self.tokens.at(), self.tokens.number(MOST)
-        self.tree = self.nested(self.sets_condition, joined)
+        self.tree = self.tokens.chain(("|", "&"), self.sets_condition, joined)
         kinds = [(greatest, odd) for greatest in (True, False) for odd in (0, 1)]
         found = [it for it in kinds if is_parity(self.tree, *it, count)]
         if not found:
@@ -214,7 +235,7 @@ class Automaton:
     def sets_condition(self):
         tokens = self.tokens
         if tokens.takes("("):
-            tree = tokens.chain(("|", "&"), self.sets_condition, joined)
+            tree = tokens.inside(lambda: tokens.chain(("|", "&"), self.sets_condition, joined), 6)
             tokens.take(")")
             return tree
         if tokens.next_is("t", "f"):
@@ -263,129 +284,126 @@ class Automaton:
         tokens.take("State:")
         # what all edges of the state are labelled with, or None
         common = self.bracket() if tokens.next_is("[") else None
-        at, state = tokens.at(), tokens.number(self.states)
+        place, state = tokens.at(), tokens.number(self.states)
         if state in self.edges:
-            tokens.refuse(f"state {state} is described twice", at)
-        self.places.append(at)
+            tokens.refuse(f"state {state} is described twice", place)
+        self.places.append(place)
         self.targets.pop(state, None)
         if tokens.next_is("a string"):
             self.called[state] = tokens.string()
-        here, edges, seen = self.sets(), self.edges.setdefault(state, []), 0
+        here, edges, seen, count = self.sets(), self.edges.setdefault(state, []), 0, 0
         implied = common is None and tokens.next_is("a number")
-        while not tokens.next_is("State:", "--END--"):
+        while not self.ends("State:", "--END--"):
             at = tokens.at()
-            letters = self.implied(len(edges)) if implied else self.bracket() if common is None else common
-            if self.owners is None and letters & seen:
-                why = f"an edge of state {state} before this one takes a letter of it"
-                tokens.refuse(f"not deterministic: {why}", at)
-            seen |= letters
+            letters = self.implied(count) if implied else self.bracket() if common is None else common
+            count += 1
+            if self.owners is None and not implied:
+                if self.diagrams.both(letters, seen):
+                    why = f"an edge of state {state} before this one takes a letter of it"
+                    tokens.refuse(f"not deterministic: {why}", at)
+                seen = self.diagrams.either(letters, seen)
             at, target = tokens.at(), tokens.number(self.states)
             if target not in self.edges:
                 self.targets.setdefault(target, at)
-            edges.append((letters, self.priority(self.sets(*here)), target))
-        if implied and len(edges) != 1 << len(self.names):
-            count = f"{len(edges)} edges without labels"
-            tokens.refuse(f"{count}, where each of {1 << len(self.names)} letters has to have one")
-        edges[:] = filter(operator.itemgetter(0), edges)
+            edge = letters, self.priority(self.sets(*here)), target
+            if letters:
+                edges.append(edge)
+        if implied and count != 1 << len(self.names):
+            has = "1 edge without a label" if count == 1 else f"{count} edges without labels"
+            tokens.refuse(f"{has}, where each of {self.letters()} letters has to have one", place)
+
+    def letters(self):
+        return 1 << len(self.names) if len(self.names) < 30 else f"2^{len(self.names)}"
 
     def implied(self, at):
         """The letter of an edge without a label: the first edge's is that without propositions, and so on."""
         if not self.tokens.next_is("a number") or at >= 1 << len(self.names):
             self.tokens.refuse("expected an edge without a label for each letter, and no other edge")
-        return self.kept(1 << at)
+        return self.diagrams.cube({level: at >> it & 1 for it, level in enumerate(self.levels)})
 
     def bracket(self):
         self.tokens.take("[")
-        letters = self.kept(self.label())
+        letters = self.label()
         self.tokens.take("]")
         return letters
 
-    def kept(self, letters):
-        if len(self.labels) << len(self.names) > MOST_BITS:
-            self.tokens.refuse(f"the labels have more than {MOST_BITS:,} letters")
-        return self.labels.setdefault(letters, letters)
-
     def label(self):
-        return self.nested(
-            self.atom, lambda operator, _, left, right: left | right if operator == "|" else left & right
-        )
-
-    def nested(self, part, join):
-        try:
-            return self.tokens.chain(("|", "&"), part, join)
-        except RecursionError:
-            self.tokens.refuse("nested too deeply")
+        either, both = self.diagrams.either, self.diagrams.both
+        join = lambda sign, _, left, right: either(left, right) if sign == "|" else both(left, right)
+        return self.tokens.chain(("|", "&"), self.atom, join)
 
     def atom(self):
         tokens = self.tokens
         if tokens.takes("!"):
-            return self.all & ~self.atom()
+            return self.diagrams.inverse(tokens.inside(self.atom))
         if tokens.takes("("):
-            letters = self.label()
+            letters = tokens.inside(self.label, 6)
             tokens.take(")")
             return letters
         if tokens.next_is("a number"):
-            return self.holds[tokens.number(len(self.names))]
+            return self.diagrams.variable(self.levels[tokens.number(len(self.names))])
         name = tokens.next.text if tokens.next else ""
-        known = self.aliases if name in self.aliases else {"t": self.all, "f": 0}
+        known = self.aliases if name in self.aliases else {"t": 1, "f": 0}
         if name not in known:
             tokens.refuse("expected a number of a proposition, t, f, an alias from above, ! or (")
         return known[tokens.take("a name").text]
 
     def cube(self, propositions, spelled):
         """The letters in which these propositions are as spelled: 1, 0, or - for either."""
-        letters = self.all
-        for proposition, value in zip(propositions, spelled):
-            if value != "-":
-                letters &= self.holds[proposition] if value == "1" else self.all & ~self.holds[proposition]
-        return letters
+        pairs = zip(propositions, spelled)
+        return self.diagrams.cube({self.levels[it]: value == "1" for it, value in pairs if value != "-"})
 
-    def turns(self):
-        """Of a game in which the players take turns, the automaton of which an edge is a move of player 0
-        and one of player 1.
+    def taken(self, state):
+        """Which edge of a state each letter takes, as a diagram: a leaf has its number, or is false."""
+        found = 0
+        for at, (letters, *_) in enumerate(self.edges[state]):
+            found = self.diagrams.choice(letters, self.diagrams.leaf(at), found)
+        return found
+
+    def steps(self, state):
+        """The same, and the edges (priority, target). In a game in which the players take turns an edge is a
+        move of player 0 and one of player 1.
 
         Player 0 begins, and chooses the propositions that are not controllable; each choice of them has one
         edge.
         """
-        self.need("controllable-AP:")
-        moves, begun, found, between = {}, [self.first], {self.first}, set()
-        for state in begun:
-            self.check_moves(state, 0)
-            for middle in {to for _, _, to in self.edges[state]} - between:
+        if self.owners is None:
+            return self.taken(state), [it[1:] for it in self.edges[state]]
+        self.check_moves(state, 0)
+        diagrams, after, found = self.diagrams, {}, {}
+        for _, priority, middle in self.edges[state]:
+            if (priority, middle) not in after:
                 self.check_moves(middle, 1)
-                between.add(middle)
-            moves[state] = [
-                (given & taken, max(priority, last), to)
-                for given, priority, middle in self.edges[state]
-                for taken, last, to in self.edges[middle]
-            ]
-            begun += [to for to in dict.fromkeys(it[2] for it in moves[state]) if to not in found]
-            found.update(begun[len(found) :])
-        self.edges = moves
+                edges = [(max(priority, last), to) for _, last, to in self.edges[middle]]
+                numbers = [diagrams.leaf(found.setdefault(it, len(found))) for it in edges]
+                move = lambda leaf: leaf and numbers[diagrams.value(leaf)]
+                after[priority, middle] = diagrams.fold(self.taken(middle), move, diagrams.node)
+        edges = [after[it[1:]] for it in self.edges[state]]
+        begun = lambda leaf: edges[diagrams.value(leaf)]
+        return diagrams.fold(self.taken(state), begun, diagrams.node), list(found)
 
     def check_moves(self, state, player):
         """Refuses a state that is not the player's, or whose edges are no choices of his propositions."""
-        refuse = lambda why: self.tokens.refuse(f"state {state}: {why}", place_of(self.places, self.edges, state))
+        if (state, player) in self.checked:
+            return
+        place = place_of(self.places, self.edges, state)
+        refuse = lambda why: self.tokens.refuse(f"state {state}: {why}", place)
         if self.owners[state] != player:
             turns = "they have to take turns, and player 0 begins"
             refuse(f"player {1 - player}'s, where player {player} moves: {turns}")
         seen = 0
         for letters, _, _ in self.edges[state]:
+            tested = set()
+            self.diagrams.fold(letters, bool, lambda level, *_: tested.add(level))
             for it, name in enumerate(self.names):
-                # with and without a proposition of the other player the letters are the same
-                same = (letters & self.holds[it]) >> (1 << it) == letters & ~self.holds[it]
-                if (it in self.controllable) != bool(player) and not same:
+                if self.levels[it] in tested and (it in self.controllable) != bool(player):
                     refuse(f"a label names {shown(name)}, which player {player} doesn't choose")
-            if letters & seen:
+            if self.diagrams.both(letters, seen):
                 refuse("not deterministic: two of its edges take one letter")
-            seen |= letters
-        if not player and seen != self.all:
+            seen = self.diagrams.either(letters, seen)
+        if not player and seen != 1:
             refuse("no edge takes one of player 0's choices")
-
-
-def bits(value, width):
-    """A choice of so many propositions, the first one's first."""
-    return format(value, f"0{width}b") if width else ""
+        self.checked.add((state, player))
 
 
 class Arena:
@@ -396,12 +414,10 @@ class Arena:
     """
 
     def __init__(self, automaton):
-        self.automaton = automaton
-        self.outputs = automaton.controllable
-        self.inputs = [it for it in range(len(automaton.names)) if it not in self.outputs]
-        width = len(self.inputs)
-        self.given = [automaton.cube(self.inputs, bits(value, width)) for value in range(1 << width)]
-        self.after = {}
+        if automaton.owners is not None:
+            automaton.need("controllable-AP:")
+        self.automaton, self.diagrams, self.border = automaton, automaton.diagrams, len(automaton.inputs)
+        self.steps = {}
         self.vertices, self.rows = reached(("state", automaton.first), self.row)
         self.numbers = {vertex: number for number, vertex in enumerate(self.vertices)}
 
@@ -411,15 +427,34 @@ class Arena:
             return more[0], 0, [("state", more[1])], f"to {more[1]}"
         if kind == "lost":
             return 1, 0, [vertex], "no edge"
-        edges = self.automaton.edges[more[0]]
         if kind == "edges":
-            taken = [("edge", *edges[it][1:]) for it in more[1]]
-            return 0, 0, taken or [("lost",)], f"{more[0]}, the controller"
-        # by each choice of inputs, the edges that some choice of outputs takes
-        self.after[more[0]] = [
-            tuple(at for at, edge in enumerate(edges) if edge[0] & letters) for letters in self.given
-        ]
-        return 0, 1, [("edges", more[0], it) for it in self.after[more[0]]], f"{more[0]}, the environment"
+            edges = self.steps[more[0]][1]
+            return 0, 0, [("edge", *edges[it]) for it in more[1]] or [("lost",)], f"{more[0]}, the controller"
+        diagram, _ = self.steps[more[0]] = self.automaton.steps(more[0])
+        following, after = self.following(diagram), {}
+        found = lambda it: after.setdefault(("edges", more[0], following(it)))
+        self.diagrams.fold(diagram, found, lambda *_: None, self.border)
+        return 0, 1, list(after), f"{more[0]}, the environment"
+
+    def following(self, steps):
+        """What says which edges some choice of outputs takes, where steps have come to a diagram. A set of
+        edges is a number that has bit k for the edge of leaf `first` + k.
+        """
+        leaves = [it for it in self.diagrams.leaves(steps) if it]
+        known = {0: None, **{it: (at, 1) for at, it in enumerate(leaves)}}
+
+        def joined(_, *halves):
+            if None in halves:
+                return halves[0] or halves[1]
+            (first, own), (second, other) = sorted(halves)
+            return first, own | other << second - first
+
+        def edges(diagram):
+            first, some = self.diagrams.fold(diagram, None, joined, known=known) or (0, 0)
+            taken = (it for at, it in enumerate(leaves[first : first + some.bit_length()]) if some >> at & 1)
+            return tuple(sorted(map(self.diagrams.value, taken)))
+
+        return edges
 
 
 def game_of(automaton, closes):

@@ -100,7 +100,7 @@ def check_count(path, count):
 def made_by_dot(text, kind):
     if not shutil.which("dot"):
         raise Refused("no picture without Graphviz: the command dot is not on the PATH", FILE)
-    status, made, _ = child(["dot", f"-T{kind}"], text.encode("utf-8", "surrogateescape"))
+    status, made, said = child(["dot", f"-T{kind}"], text.encode("utf-8", "surrogateescape"))
     if status:
-        raise Refused(f"the command dot ended with status {status}", FILE)
+        raise Refused(f"the command dot ended with status {status}", FILE, said=said.encode())
     return made

@@ -19,6 +19,8 @@ PACKED = {b"\x1f\x8b": "gzip", b"BZh": "bz2", b"\xfd7zXZ\0": "lzma", b"\x28\xb5\
 UTF_16 = "it is UTF-16: `iconv -f UTF-16 -t UTF-8` turns it into UTF-8"
 # the greatest number
 MOST = 2_147_483_647
+# what brackets and signs before an operand take, as far as they are inside each other
+MOST_CALLS = 8_000
 # these operators join from the right, and all others from the left
 FROM_THE_RIGHT = ("=>", ".")
 
@@ -173,7 +175,7 @@ class Tokens(Text):
     def __init__(self, path, text):
         super().__init__(path, text)
         # the next token, or None; and where the last one that was taken ends
-        self.next, self.done = None, 0
+        self.next, self.done, self.depth = None, 0, 0
         self.next = self.token(0)
 
     def token(self, at):
@@ -236,9 +238,25 @@ class Tokens(Text):
         """
         if not operators:
             return part()
-        operator, at = operators[0], self.at()
+        operator, at, before = operators[0], self.at(), []
         left = self.chain(operators[1:], part, join)
         while self.takes(operator):
-            right = self.chain(operators[operator not in FROM_THE_RIGHT :], part, join)
-            left = join(operator, at, left, right)
+            begins = self.at()
+            right = self.chain(operators[1:], part, join)
+            if operator in FROM_THE_RIGHT:
+                before.append((at, left))
+                at, left = begins, right
+            else:
+                left = join(operator, at, left, right)
+        for begins, it in reversed(before):
+            left = join(operator, begins, it, left)
         return left
+
+    def inside(self, part, calls=2):
+        """What a part is inside what was begun, which takes so many calls, and is refused alike by each Python."""
+        self.depth += calls
+        if self.depth > MOST_CALLS:
+            self.refuse("nested too deeply")
+        found = part()
+        self.depth -= calls
+        return found

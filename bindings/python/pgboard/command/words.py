@@ -7,17 +7,21 @@ automaton or a game in the HOA format. `-` is standard input. Results have the i
 
 # mypy: ignore-errors
 
-from . import WORDS, Parser, Refused, called, number, seconds, write  # isort: skip
+from . import LATE, WORDS, Parser, Refused, called, number, seconds, shown, write  # isort: skip
 
+import contextlib
+import io
 import json
 import re
 import sys
 
 from ..version import __version__
-from . import engine, explain, pictures, statistics
+from . import engine, explain, generate, modelcheck, pictures, statistics, synthesise
 from .games import PLAYERS, Game, Solution, game_of, game_of_text, solution_of
 from .texts import Text, bytes_of, decoded, text_of, texts_of
 
+# what --winners leaves out of a line
+CHOICE = re.compile("(?<= [01]) [0-9]+(?=;)")
 # (of a word, what its own statuses say comes before)
 STATUSES = "2 where the command line was refused, 3 a text, 4 a file or the output, 5 memory, "
 STATUSES += "7 where the command itself has a mistake"
@@ -103,12 +107,20 @@ def solve(given):
     if not 1 <= given.workers <= 64:
         raise Refused(f"--workers: from 1 to 64 threads, not {given.workers}", WORDS)
     engine.engine().workers = given.workers
-    data, *known = bytes_of(given.game, *([given.known] if given.known else []))
-    reads = has_rules(given) or given.json or given.stats or given.keep_names or given.partial
-    if not (known or reads or given.winners):
-        text = engine.as_it_is("solve_bytes", data, given.timeout)
-        if text is not None:
-            return print(text, end="")
+    data, *known = bytes_of(given.game, *([] if given.known is None else [given.known]))
+    reads = known or has_rules(given) or given.stats or given.keep_names or given.partial
+    text = None if reads else engine.as_it_is("solve_bytes", data, given.timeout)
+    if text is None:
+        return solve_read(given, data, *known)
+    if given.json:
+        rows = [[*map(int, it[:-1].split())] for it in text.splitlines()[1:]]
+        rows = [{"vertex": it[0], "winner": it[1], "choice": it[2] if it[2:] else None} for it in rows]
+        return print_json({"is_whole": True, "solution": rows})
+    return print(CHOICE.sub("", text) if given.winners else text, end="")
+
+
+def solve_read(given, data, *known):
+    """Solves a game that this command has to read."""
     game = game_of_text(given.game, decoded(given.game, data), given)
     known = solution_of(given.known, decoded(given.known, known[0])) if known else None
     if known:
@@ -128,7 +140,7 @@ def solve(given):
         print(shown.written(game.rows if given.keep_names else None), end="", flush=True)
         print(statistics.text(numbers), end="", file=sys.stderr)
     if not found.is_whole:
-        raise engine.late(given.timeout, found.solution.rows, game.rows)
+        raise engine.late(given.timeout, len(found.solution.rows), len(game.rows))
 
 
 def judged(given, data):
@@ -182,13 +194,24 @@ def reached(game, solution, start):
     return part
 
 
+def vertex_of(path, game, word):
+    """The vertex that has this identifier, or else this name."""
+    id = int(word) if re.fullmatch("[0-9]{1,10}", word, re.ASCII) else None
+    found = [id] if id in game.rows else [it for it, row in game.rows.items() if word and row[3] == word]
+    if len(found) != 1:
+        word = shown(word) or "''"
+        many = f"{len(found)} vertices have the name {word}: --vertex takes an identifier too"
+        raise Refused(f"{called(path)}: {many if found else f'there is no vertex {word}'}")
+    return found[0]
+
+
 def winner(given):
     game = game_of(given.game, given)
     if given.state is not None and not game.states:
         raise Refused("--state is for a file in the HOA format", WORDS)
     if given.state is not None and given.state not in game.states:
         raise Refused(f"{called(given.game)}: no play reaches a state {given.state}")
-    start = game.start if given.vertex is None else given.vertex
+    start = game.start if given.vertex is None else vertex_of(given.game, game, given.vertex)
     start = start if given.state is None else game.states[given.state]
     if start not in game.rows:
         lacks = "no line `start` names a vertex: --vertex does"
@@ -210,7 +233,7 @@ def winner(given):
         by_name = f"vertex {game.called(start) if game.states else start}"
         named = f"state {state['state']}" if state and given.vertex is None else by_name
         print(f"{PLAYERS[player]} wins {named}", flush=True)
-    if given.part:
+    if given.part is not None:
         write(given.part, part.written())
     if given.picture:
         pictures.write_picture(given.picture, len(rows), pictures.of_game(part, rows))
@@ -285,8 +308,28 @@ def add_solving(it):
     )
 
 
+def add_start(it):
+    by = it.add_mutually_exclusive_group()
+    by.add_argument("--vertex", metavar="V", help="the vertex, by its identifier or its name")
+    by.add_argument("--state", metavar="N", type=number, help="the state of a file in the HOA format")
+    add_timeout(it)
+    add_flags(it, reach="write the part that a play from there can reach, as a solution")
+    it.add_argument("--game", dest="part", metavar="FILE", help="write that part as a game of one player")
+    pictures.add_option(it, "that part")
+    add_flags(it, **JSON)
+
+
+def add_drawing(it):
+    kinds = it.add_mutually_exclusive_group()
+    for kind in pictures.KINDS[1:]:
+        said = "write this picture, not Graphviz text"
+        kinds.add_argument(f"--{kind}", dest="kind", action="store_const", const=kind, help=said)
+    it.add_argument("--trace", metavar="TRACE", help="draw what an output of `pgboard trace` settles")
+    it.add_argument("--entries", metavar="K", type=number, help="of its first K entries alone")
+
+
 def parser():
-    top = Parser(__doc__, "`WORD --help` says more of a word.", False, prog="python3 -m pgboard")
+    top = Parser(__doc__, "`WORD --help` says more of a word.", False, prog="pgboard")
     top.add_argument("--version", action="version", version=f"pgboard {__version__}")
     words = top.add_subparsers(metavar="WORD", required=True, parser_class=Parser)
 
@@ -297,6 +340,13 @@ def parser():
         add_game(made, solution)
         return made
 
+    def game_of_its_own(module, name):
+        """A word that makes its game itself, of what its module reads."""
+        short, how = module.__doc__.split("\n")[0], {"description": module.__doc__, "epilog": module.HELP}
+        made = words.add_parser(name, help=short, **how)
+        made.set_defaults(call=module.main)
+        module.add_options(made)
+
     late = "6 where --timeout was not enough, "
     it = word(solve, "solve", SOLVE, f"{DONE}1 where what is known does not hold, {late}")
     add_solving(it)
@@ -304,33 +354,46 @@ def parser():
     add_flags(word(verify, "verify", VERIFY, JUDGED, "one"), **JSON)
     it = word(explains, "explain", EXPLAIN, JUDGED, "one")
     pictures.add_option(it, "what is wrong")
-    it = word(winner, "winner", WINNER, f"0 where Even wins, 1 where Odd wins, {late}")
-    by = it.add_mutually_exclusive_group()
-    by.add_argument("--vertex", metavar="V", type=number, help="the vertex, by its identifier")
-    by.add_argument("--state", metavar="N", type=number, help="the state of a file in the HOA format")
-    add_timeout(it)
-    add_flags(it, reach="write the part that a play from there can reach, as a solution")
-    it.add_argument("--game", dest="part", metavar="FILE", help="write that part as a game of one player")
-    pictures.add_option(it, "that part")
-    add_flags(it, **JSON)
+    add_start(word(winner, "winner", WINNER, f"0 where Even wins, 1 where Odd wins, {late}"))
     it = word(convert, "convert", CONVERT)
     add_flags(it, solution="the input is a solution, as PGSolver or Oink print it")
-    it = word(draw, "draw", DRAW, solution="?")
-    kinds = it.add_mutually_exclusive_group()
-    for kind in pictures.KINDS[1:]:
-        said = "write this picture, not Graphviz text"
-        kinds.add_argument(f"--{kind}", dest="kind", action="store_const", const=kind, help=said)
-    it.add_argument("--trace", metavar="TRACE", help="draw what an output of `pgboard trace` settles")
-    it.add_argument("--entries", metavar="K", type=number, help="of its first K entries alone")
+    add_drawing(word(draw, "draw", DRAW, solution="?"))
     add_flags(word(stats, "stats", STATS), **JSON)
+    game_of_its_own(modelcheck, "modelcheck")
+    game_of_its_own(synthesise, "synthesise")
+    game_of_its_own(generate, "random")
+    for it in words.choices.values():
+        said = "write the result there; a file is replaced once all of it is written"
+        it.add_argument("-o", "--output", metavar="FILE", help=said)
     return top, words.choices
 
 
+def written(given):
+    """Writes what a word prints to the file of -o, unless that is cut. Returns its status."""
+    out = io.TextIOWrapper(io.BytesIO(), "utf-8", "surrogateescape")
+    try:
+        with contextlib.redirect_stdout(out):
+            status, late = given.call(given), None
+    except Refused as fault:
+        if fault.status != LATE or not getattr(given, "partial", False):
+            raise
+        status, late = fault.status, fault
+    out.flush()
+    write(given.output, out.buffer.getvalue())
+    if late:
+        raise late
+    return status
+
+
 def main(words):
+    if words[:1] == ["why"]:
+        from . import why
+
+        return why.main(words[1:])
     top, each = parser()
     # (options may come between the words of one)
     if words and words[0] in each:
         given = each[words[0]].parse_intermixed_args(words[1:])
     else:
         given = top.parse_args(words)
-    return given.call(given)
+    return given.call(given) if given.output in (None, "-") else written(given)

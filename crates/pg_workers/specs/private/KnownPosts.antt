@@ -10,7 +10,7 @@ use Rattle.pg_dominion.specs.KeptEdges.{own_choices}
 use Rattle.pg_board.specs.declared.journal.Refusal.{Refusal}
 use Rattle.pg_board.specs.declared.journal.Refusal.TheVariants as refusal
 use Rattle.pg_board.specs.BoardRecord.{BoardRecord}
-use Rattle.pg_board.specs.State.{State, settled}
+use Rattle.pg_board.specs.State.{settled}
 use Rattle.pg_board.specs.Journal.{Journal, state_of, number_settled, IsLawful}
 use Rattle.pg_workers.specs.declared.report.ReportRow.{ReportRow}
 use Rattle.pg_workers.specs.Report.{settled_in}
@@ -46,10 +46,6 @@ pub record HasKnown (g : Graph) (known : KnownRows) (journal : Journal) : Type 0
   pub regions : (p : Player) → IsKnownRegion g known p
   pub states : KeepsKnown g known (state_of journal)
   pub number : IsKnownSize g known (number_settled journal)
-
--- what is known of this vertex stays so in the state
-abbrev pub KeepsRow : Graph → KnownRows → State → ℕ → Type 0
-KeepsRow g known st v = (p : Player) → In (known_of known p) v → st v ≡ Some (p, own_choices g p (known_choice known) v)
 
 -- both known sets are regions, and the rows' column `settled` and what the sets attract are together the number settled
 pub record HasSettled (g : Graph) (known : KnownRows) (report : List ReportRow) (journal : Journal) : Type 0 where

@@ -4,15 +4,16 @@ use Rattle.std.specs.Global.{Global}
 use Rattle.pg_workers.specs.declared.report.ReportRow.{ReportRow}
 use Rattle.pg_workers.specs.Counting.{times, once_below}
 use Rattle.pg_game.specs.Graph.{Graph}
-use Rattle.pg_dominion.specs.Checked.{CheckedClaim, claim_of}
+use Rattle.pg_dominion.specs.Checked.{CheckedClaim, claim_of, AgreesWithGame}
 use Rattle.pg_dominion.specs.Fault.{IsClaimFault}
 use Rattle.pg_dominion.specs.declared.claim.Claim.{Claim}
 use Rattle.pg_dominion.specs.declared.claim.ClaimFault.{ClaimFault}
+use Rattle.pg_board.specs.BoardRecord.{BoardRecord}
 use Rattle.pg_board.specs.Office.{IsCheckedAnswerOfSome}
 use Rattle.pg_board.specs.Refusal.{refusal_of}
 use Rattle.pg_board.specs.declared.journal.Refusal.{Refusal}
 use Rattle.pg_board.specs.declared.journal.Refusal.TheVariants as refusal
-use Rattle.pg_workers.specs.Report.{AreCounts, IsInOrder, IsReport, blank_row}
+use Rattle.pg_workers.specs.Report.{AreCounts, blank_row}
 
 -- no worker drew a job
 abbrev pub AreBlank : List ReportRow → Type 0
@@ -52,10 +53,6 @@ noted r (Err refusal.Stale) = record r { stale = r.stale + 1 }
 noted r (Err refusal.Memory) = record r { memory = true }
 noted r (Err fault) = record r { refused = r.refused + 1 }
 
--- the row as if none of its claims had been posted
-abbrev pub without_posts : ReportRow → ReportRow
-without_posts r = record r { posted = 0; settled = 0 }
-
 -- the number of claims of the job that were posted, stale or refused
 abbrev pub answered : ReportRow → ℕ
 answered r = r.posted + r.stale + r.refused
@@ -75,13 +72,10 @@ pub record AreCounted (claims : ℕ) (old new : ReportRow) (share later : ℕ) :
   pub counts : AreCounts old → AreCounts new
   pub settled : later + old.settled ≡ share + new.settled
 
--- the answer to a claim: why its check on the game failed, or the answer of some board to the checked claim
-abbrev pub IsClaimAnswer : ℕ → ℕ → Graph → Claim → Result ℕ Refusal → Type 0
-IsClaimAnswer amount worker g claim answer =
+-- the answer to a claim: why its check on the game failed, or the answer of some board of the office to the checked claim, which
+-- agrees with the game
+abbrev pub IsClaimAnswer : BoardRecord → ℕ → ℕ → Graph → Claim → Result ℕ Refusal → Type 0
+IsClaimAnswer opened amount worker g claim answer =
     ((fault : ClaimFault) × IsClaimFault g claim.player claim.rows fault × (answer ≡ Err (refusal_of fault)))
-    ⊎ ((checked : CheckedClaim) × (claim_of checked ≡ claim) × IsCheckedAnswerOfSome amount worker checked answer)
-
--- what a report says of its jobs, posts aside, the new one says too
-pub record KeepsReport (old new : List ReportRow) : Type 0 where
-  pub order : (total : ℕ) → IsInOrder total old → IsInOrder total new
-  pub rows : (workers : ℕ) → IsReport workers old → IsReport workers new
+    ⊎ ((checked : CheckedClaim) × (claim_of checked ≡ claim) × AgreesWithGame g checked.player checked.rows
+    × IsCheckedAnswerOfSome opened amount worker checked answer)

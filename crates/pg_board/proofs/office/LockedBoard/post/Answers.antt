@@ -5,7 +5,7 @@ use Rattle.pg_board.proofs.Refused.{refused_through}
 use Rattle.pg_board.proofs.office.LockedBoard.post.Goals as goal
 
 pub raise-requires : goal.raise-requires
-raise-requires g c = amount_fits c.args.share.now c.requires.board c.requires.settled (rw c.in_ok-posted.was at c.post.ensures)
+raise-requires g c = amount_fits c.args.share.now c.requires.lawful c.requires.settled (rw c.in_ok-posted.was at c.post.ensures)
 
 pub returns-in_err-posted-clause-answer : goal.returns-in_err-posted-clause-answer
 returns-in_err-posted-clause-answer g c =

@@ -1,0 +1,5 @@
+//! The tests of `pg_dominion`, which calls it as any other crate does.
+#![tactic(auto)]
+
+#[cfg(test)]
+mod tests;

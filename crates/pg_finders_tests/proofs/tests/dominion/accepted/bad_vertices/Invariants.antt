@@ -1,5 +1,0 @@
-use Rattle.std.proofs.Common.{◌≡◌, length}
-use Rattle.pg_finders_tests.proofs.tests.dominion.accepted.bad_vertices.Given as goal
-
-abbrev pub invariant-parts : goal.invariant-parts
-invariant-parts g l = length l.bad ≡ l.n

@@ -1,5 +1,0 @@
-use Rattle.std.proofs.Common.{◌≡◌}
-use Rattle.pg_finders_tests.proofs.tests.dominion.kept.all_edges.Given as goal
-
-abbrev pub invariant-vertices : goal.invariant-vertices
-invariant-vertices g l = l.kept.game.now ≡ l.game

@@ -1,6 +1,0 @@
-use Rattle.std.specs.Prelude.{All}
-use Rattle.pg_game.specs.Specification.{AreNumbers}
-use Rattle.pg_text_tests.proofs.tests.game.dense.Given as goal
-
-abbrev pub invariant-vertices : goal.invariant-vertices
-invariant-vertices l = All AreNumbers l.specs.items

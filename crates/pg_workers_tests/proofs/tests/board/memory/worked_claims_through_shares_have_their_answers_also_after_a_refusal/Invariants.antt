@@ -1,7 +1,0 @@
-use Rattle.pg_workers_tests.proofs.tests.board.memory.worked_claims_through_shares_have_their_answers_also_after_a_refusal.Given as goal
-
--- the ledger of the blank that was just made
-abbrev pub ghosts-run_through : goal.ghosts-run_through
-ghosts-run_through g a = record { name = a.blank.name; parts = a.blank.parts }
-
--- an office of the game that was just made
