@@ -1,11 +1,11 @@
 -- How many slices remain.
 use Rattle.pg_board.proofs.Common.{◌≡◌, ◌≤◌, ◌<◌, ◌+◌, ◌-◌, ℕ, length, arith, sym, subst, Result, ◌↔◌, Bool, false, Graph, Journal, state_of, IsFull, State, unsettled, is_unsettled, In, and_parts, ltb-true, nat_lt}
-use Rattle.std.proofs.Common.{IfOk, IsTrue, rules}
+use Rattle.std.proofs.Common.{IfOk, IsTrue, OnErr, rules}
 use Rattle.std.proofs.lemmas.Result.{IfOk-weaker}
 use Rattle.std.specs.declared.alloc.AllocError.{AllocError}
 use Rattle.pg_board.specs.BoardRecord.{SessionRecord}
 use Rattle.pg_board.specs.Work.{total_of}
-use Rattle.pg_board.specs.Slices.{slices_left, most_slices, most_steps, IsCharged, IsLastCharged}
+use Rattle.pg_board.specs.Slices.{slices_left, most_slices, most_steps, IsSearch, IsCharged, IsLastCharged}
 use Rattle.pg_board.specs.declared.advance.Stage.{Stage}
 use Rattle.pg_board.specs.declared.advance.Stage.TheVariants as stage
 use Rattle.pg_board.specs.private.Stage.{IsStageOf, IsRunOn}
@@ -61,9 +61,9 @@ pub few_left : (g : Graph) (from : Stage) (number : ℕ) → from ≡ stage.Sear
 few_left g from number is last = subst (λ (x : Stage). slices_left g x ≤ 1 + most_steps g) (sym is) (omega (arith, last))
 
 -- then a slice uses up its steps
-pub charged_all : (most slices given left : ℕ) (Open : Type 0) (r : Result Stage AllocError) → slices ≤ 1 + most → IfOk r (λ s. Open → left ≡ 0)
-    → IfOk r (λ s. Open → IsCharged most slices given left)
-charged_all most slices given left Open r few here =
+pub charged_all : (g : Graph) (most slices given left : ℕ) (Open : Type 0) (r : Result Stage AllocError) → slices ≤ 1 + most
+    → IfOk r (λ s. Open → left ≡ 0) → IfOk r (λ s. Open → IsCharged most slices (slices_left g s) given left)
+charged_all g most slices given left Open r few here =
     IfOk-weaker r _ _ (λ s h o. ((λ more. absurd (omega (arith, more, few))), (λ few. h o))) here
 
 -- and if it settles the last vertex, it has taken a step
@@ -72,13 +72,19 @@ pub charged_last : (most slices given left : ℕ) (Full : Type 0) (Open : ℕ �
 charged_last most slices given left Full Open r few here =
     IfOk-weaker r _ _ (λ s h full v o. ((λ more. absurd (omega (arith, more, few))), (λ few. h full v o))) here
 
-pub charged_in_session : (Charged : ℕ → ℕ → Type 0) (g h : Graph) (s t : Stage) (x : SessionRecord) → g ≡ h → s ≡ t → h ≡ x.board.graph
-    → slices_left h t ≡ x.slices → Charged (most_steps g) (slices_left g s) → Charged (most_steps x.board.graph) x.slices
+-- and if memory is refused, it was no search
+pub no_refused_search : (most slices : ℕ) (Kept : Type 0) (r : Result Stage AllocError) → slices ≤ 1 + most → OnErr r (IsSearch most slices → Kept)
+no_refused_search most slices Kept (Ok s) few = tt
+no_refused_search most slices Kept (Err e) few = λ more. absurd (omega (arith, more, few))
+
+-- what a slice of a board is charged, its session is charged
+pub charged_in_session : (Charged : Graph → ℕ → ℕ → Type 0) (g h : Graph) (s t : Stage) (x : SessionRecord) → g ≡ h → s ≡ t → h ≡ x.board.graph
+    → slices_left h t ≡ x.slices → Charged g (most_steps g) (slices_left g s) → Charged h (most_steps x.board.graph) x.slices
 charged_in_session Charged g h s t x graph same board slices here =
-    subst (λ (y : Graph). Charged (most_steps y) x.slices) board
-    (subst (λ (m : ℕ). Charged (most_steps h) m) slices
-    (subst (λ (y : Stage). Charged (most_steps h) (slices_left h y)) same
-    (subst (λ (y : Graph). Charged (most_steps y) (slices_left y s)) graph here)))
+    subst (λ (y : Graph). Charged h (most_steps y) x.slices) board
+    (subst (λ (m : ℕ). Charged h (most_steps h) m) slices
+    (subst (λ (y : Stage). Charged h (most_steps h) (slices_left h y)) same
+    (subst (λ (y : Graph). Charged y (most_steps y) (slices_left y s)) graph here)))
 
 -- a full board has no unsettled vertex
 pub full_shut : (g : Graph) (st : State) (v : ℕ) → IsFull g st → In (unsettled g st) v → ⊥

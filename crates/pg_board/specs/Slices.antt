@@ -20,11 +20,15 @@ slices_left g (stage.Recursion r) = r.remaining
 abbrev pub most_slices : Graph → ℕ
 most_slices g = total_of 4 (length g) + most_steps g
 
--- the steps that a slice leaves where a vertex of the game is still unsettled. It is a search if more slices remain than one and the most
--- steps, and then it takes none; else it is one of the recursion, and uses all of them up
-abbrev pub IsCharged : ℕ → ℕ → ℕ → ℕ → Type 0
-IsCharged most slices old new = (1 + most < slices → new ≡ old) × (slices ≤ 1 + most → new ≡ 0)
+-- the next slice is a search if more slices remain than one and the most steps; else it is one of the recursion
+abbrev pub IsSearch : ℕ → ℕ → Type 0
+IsSearch most slices = 1 + most < slices
+
+-- what a slice leaves where a vertex of the game is still unsettled: a search leaves fewer slices and takes no step, and a slice of the
+-- recursion uses all of its steps up
+abbrev pub IsCharged : ℕ → ℕ → ℕ → ℕ → ℕ → Type 0
+IsCharged most slices left old new = (IsSearch most slices → (left < slices) × (new ≡ old)) × (slices ≤ 1 + most → new ≡ 0)
 
 -- the same where it settles the last vertex: then one of the recursion has taken a step
 abbrev pub IsLastCharged : ℕ → ℕ → ℕ → ℕ → Type 0
-IsLastCharged most slices old new = (1 + most < slices → new ≡ old) × (slices ≤ 1 + most → new < old)
+IsLastCharged most slices old new = (IsSearch most slices → new ≡ old) × (slices ≤ 1 + most → new < old)

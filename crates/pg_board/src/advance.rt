@@ -1,14 +1,14 @@
 //! How a session settles all that is left in slices, as worker 0. The slices run the searches of `Board::finish` in the same order,
 //! and then the recursion, whose state they keep.
 
-ghost use Rattle.std.specs.Prelude.{◌≡◌, ◌+◌, ◌-◌, ◌<◌, ◌≤◌, ℕ, IfOk};
+ghost use Rattle.std.specs.Prelude.{◌≡◌, ◌+◌, ◌-◌, ◌<◌, ◌≤◌, ℕ, IfOk, OnErr, Ok};
 ghost use Rattle.std.specs.Arc.{arc_value};
 ghost use Rattle.pg_game.specs.VertexSet.{In};
 ghost use Rattle.pg_board.specs.State.{unsettled};
 ghost use Rattle.pg_board.specs.Journal.{state_of};
 ghost use Rattle.pg_board.specs.Full.{IsFull};
 ghost use Rattle.pg_board.specs.Finish.{IsContinued};
-ghost use Rattle.pg_board.specs.Slices.{slices_left, most_steps, IsCharged, IsLastCharged};
+ghost use Rattle.pg_board.specs.Slices.{slices_left, most_steps, IsSearch, IsCharged, IsLastCharged};
 ghost use Rattle.pg_board.specs.private.Stage.{IsRunOn, IsStageOf};
 
 use crate::board::Board;
@@ -47,9 +47,11 @@ impl<'g> Board<'g> {
         ensures taken { IfOk result (λ s. (IsFull self.new.graph (state_of self.new.journal) → ⊥)
             → slices_left self.old.graph s + (steps.old - steps.new) ≤ slices_left self.old.graph stage) }
         ensures charged { IfOk result (λ s. (IsFull self.new.graph (state_of self.new.journal) → ⊥)
-            → IsCharged (most_steps self.old.graph) (slices_left self.old.graph stage) steps.old steps.new) }
+            → IsCharged (most_steps self.old.graph) (slices_left self.old.graph stage) (slices_left self.old.graph s) steps.old steps.new) }
         ensures last { IfOk result (λ s. IsFull self.new.graph (state_of self.new.journal) → (v : ℕ) → In (unsettled self.old.graph (state_of self.old.journal)) v
             → IsLastCharged (most_steps self.old.graph) (slices_left self.old.graph stage) steps.old steps.new) }
+        ensures refused { OnErr result (IsSearch (most_steps self.old.graph) (slices_left self.old.graph stage) → steps.new ≡ steps.old) }
+        ensures whole { IsFull self.old.graph (state_of self.old.journal) → (result ≡ Ok stage) × (self.new ≡ self.old) × (steps.new ≡ steps.old) }
     {
         let n = self.game().len();
         if self.is_full() {

@@ -1,7 +1,7 @@
 //! A game and its board, which nothing borrows: each call that posts makes a `Board` of them for its own time. So a session can
 //! be kept where no lifetime can be, as behind a handle in C.
 
-ghost use Rattle.std.specs.Prelude.{◌≡◌, ◌+◌, ◌-◌, ◌≤◌, ◌<◌, ◌↔◌, [], IfOk, OnErr, IsTrue, ℕ, true, false};
+ghost use Rattle.std.specs.Prelude.{◌≡◌, ◌+◌, ◌-◌, ◌≤◌, ◌<◌, ◌↔◌, [], IfOk, OnErr, Ok, IsTrue, ℕ, true, false};
 ghost use Rattle.pg_game.specs.VertexSet.{In};
 ghost use Rattle.pg_board.specs.State.{unsettled};
 ghost use Rattle.pg_board.specs.Journal.{state_of, IsLawful, number_settled};
@@ -9,7 +9,7 @@ ghost use Rattle.pg_board.specs.Full.{IsFull};
 ghost use Rattle.pg_board.specs.Board.{IsLawfulBoard, IsSolutionOf};
 ghost use Rattle.pg_board.specs.Finish.{IsContinued, IsFinishAnswer};
 ghost use Rattle.pg_board.specs.Post.{IsPostAnswer};
-ghost use Rattle.pg_board.specs.Slices.{most_slices, most_steps, IsCharged, IsLastCharged};
+ghost use Rattle.pg_board.specs.Slices.{most_slices, most_steps, IsSearch, IsCharged, IsLastCharged};
 ghost use Rattle.pg_board.specs.private.Contents.{IsContentsOf, board_record};
 
 use crate::advance::Stage;
@@ -101,9 +101,11 @@ impl Session {
         ensures steps { steps.new ≤ steps.old }
         ensures nearer { IfOk result (λ done. done ≡ false → 0 < steps.old → self.new.slices < self.old.slices) }
         ensures taken { IfOk result (λ done. done ≡ false → self.new.slices + (steps.old - steps.new) ≤ self.old.slices) }
-        ensures charged { IfOk result (λ done. done ≡ false → IsCharged (most_steps self.old.board.graph) self.old.slices steps.old steps.new) }
+        ensures charged { IfOk result (λ done. done ≡ false → IsCharged (most_steps self.old.board.graph) self.old.slices self.new.slices steps.old steps.new) }
         ensures last { IfOk result (λ done. done ≡ true → (v : ℕ) → In (unsettled self.old.board.graph (state_of self.old.board.journal)) v
             → IsLastCharged (most_steps self.old.board.graph) self.old.slices steps.old steps.new) }
+        ensures refused { OnErr result (IsSearch (most_steps self.old.board.graph) self.old.slices → steps.new ≡ steps.old) }
+        ensures whole { IsFull self.old.board.graph (state_of self.old.board.journal) → (result ≡ Ok true) × (self.new ≡ self.old) × (steps.new ≡ steps.old) }
     {
         let mut board = Board::attach(&self.game, self.contents.take().unwrap());
         let stage = replace(&mut self.stage, Stage::Search(0));

@@ -3,7 +3,7 @@
 
 ghost use Rattle.std.specs.Prelude.{◌≡◌, ◌+◌, ◌^◌, ◌≤◌, ◌<◌, ℕ, IfOk, length, map, vec_len};
 ghost use Rattle.pg_workers.specs.Report.{IsInOrder, blank_row, settled_in};
-ghost use Rattle.pg_workers.specs.private.Report.{AreBlank, AreOfPrefix, AreNotedRows, HasFreePlaces, answered, noted, rows_in};
+ghost use Rattle.pg_workers.specs.private.Report.{AreBlank, AreOfPrefix, AreNotedRows, HasFreePlaces, answered, noted, rows_in, without_posts};
 
 use pg_board::Refusal;
 use pg_game::Memory;
@@ -88,6 +88,17 @@ pub(crate) fn with_rows(mut report: Vec<ReportRow>, all: &[Vec<ReportRow>]) -> V
     report
 }
 
+/// The report with `posted` and `settled` set to 0 in every row.
+pub(crate) fn with_no_posts(mut report: Vec<ReportRow>) -> Vec<ReportRow>
+    ensures length { vec_len result ≡ vec_len report }
+    ensures rows { result.items ≡ map without_posts report.items }
+{
+    for k in 0..report.len() {
+        report[k] = without_posts(report[k]);
+    }
+    report
+}
+
 /// Puts each row at the place of its job.
 fn place_rows(report: &mut [ReportRow], rows: &[ReportRow])
     requires { HasFreePlaces report.old rows.now }
@@ -96,5 +107,16 @@ fn place_rows(report: &mut [ReportRow], rows: &[ReportRow])
 {
     for row in rows {
         report[row.job as usize] = *row;
+    }
+}
+
+/// The row with `posted` and `settled` set to 0.
+fn without_posts(row: ReportRow) -> ReportRow
+    ensures { result ≡ without_posts row }
+{
+    ReportRow {
+        posted: 0,
+        settled: 0,
+        ..row
     }
 }

@@ -13,7 +13,7 @@ ghost use Rattle.pg_board.specs.Work.{total_of};
 
 use crate::jobs::{Jobs, Ticket};
 use crate::known::{KnownOf, SolveFault, board_with};
-use crate::report::{ReportRow, blank_report, with_rows};
+use crate::report::{ReportRow, blank_report, with_no_posts, with_rows};
 use crate::threads::{new_workers, start_all, take_apart};
 use crate::worker::{Gate, RunJobs, Setup, Task};
 use pg_board::{Board, Entry, Office, Opening, Options, Share};
@@ -65,7 +65,7 @@ pub fn solve_game<R: Threads + Wait + Sync>(
         gate,
         finder,
     };
-    Ok(solve_on::<Brand, _, _, R>(&setup, board, blank)?)
+    solve_on::<Brand, _, _, R>(&setup, board, blank)
 }
 
 /// A run over an office of a board with what is known, with a ledger made of this blank. The only error is `Memory`.
@@ -73,14 +73,15 @@ fn solve_on<L: Opening + Send + Sync, G: Gate, F: Finder, R: Threads + Wait + Sy
     setup: &Setup<'_, G, F, R>,
     board: Board<'_>,
     blank: Blank,
-) -> Result<Outcome, Memory>
+) -> Result<Outcome, SolveFault>
     requires name { blank.name ≡ L.name }
     requires parts { (blank.parts ≡ L.parts) × (blank.parts ≡ setup.now.options.now.workers + 1) }
     requires opened { board ≡ L.opened }
     requires game { board.graph ≡ setup.now.start.now.game.now }
     requires known { HasKnown setup.now.start.now.game.now setup.now.start.now.known.now.rows board.journal }
-    ensures { IfOk result (λ o. IsOutcome setup.now.start.now.game.now setup.now.start.now.known.now.rows
+    ensures outcome { IfOk result (λ o. IsOutcome setup.now.start.now.game.now setup.now.start.now.known.now.rows
         (total_of setup.now.options.now.bound (length setup.now.start.now.game.now)) setup.now.options.now.workers o) }
+    ensures fault { IfErr result (λ e. IsSolveFault setup.now.start.now.game.now setup.now.start.now.known.now.rows e) }
 {
     let alloc = setup.alloc;
     let workers = setup.options.workers;
@@ -91,7 +92,8 @@ fn solve_on<L: Opening + Send + Sync, G: Gate, F: Finder, R: Threads + Wait + Sy
     let (closed, report) = run_workers::<L, Brand, G, F, R>(
         setup, office, first, shares, jobs, tickets,
     )?;
-    outcome_of(alloc, closed, report)
+    let (own, report) = on_own_game(alloc, setup.start, closed, report)?;
+    Ok(outcome_of(alloc, own, report)?)
 }
 
 /// The workers' part, on a new office and new jobs: the closed board, and the results of each job. The first share is no
@@ -141,6 +143,25 @@ fn run_workers<
     shares.push_reserved(first);
     let board = office.close(shares);
     Ok((board, with_rows(report, rows.as_slice())))
+}
+
+/// The closed board and its report if the board is of the game of the run, as it is by the contract of `Office::close`. Otherwise a
+/// new board with what is known, and the report without posts.
+fn on_own_game<'g>(
+    alloc: Global,
+    of: &KnownOf<'g>,
+    board: Board<'g>,
+    report: Vec<ReportRow>,
+) -> Result<(Board<'g>, Vec<ReportRow>), SolveFault>
+    requires { board.graph ≡ of.now.game.now }
+    ensures same { IfOk result (λ r. (r.0 ≡ board.entry) × (r.1.items ≡ report.items)) }
+    ensures fault { IfErr result (λ e. IsSolveFault of.now.game.now of.now.known.now.rows e) }
+{
+    if *board.game() == *of.game {
+        return Ok((board, report));
+    }
+    let board = board_with(alloc, of)?;
+    Ok((board, with_no_posts(report)))
 }
 
 /// The solution and the entries of a full board.

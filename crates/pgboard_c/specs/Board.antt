@@ -1,7 +1,7 @@
 -- The answers of the calls on a board that C holds. The board is none where it is closed, and else a game with the journal of its settled
 -- vertices.
 use Rattle.std.specs.Prelude.{ℕ, ◌≡◌, ◌<◌, ◌≤◌, ◌+◌, ◌-◌, List, [], length, slice_index}
-use Rattle.std.specs.Prelude.{Option, Some, None, IfSome, IsSome, Result, MatchResult, OnOk, IfErr}
+use Rattle.std.specs.Prelude.{Option, Some, None, IfSome, IsSome, Result, MatchResult, OnOk, OnErr, IfErr}
 use Rattle.pg_game.specs.declared.player.Player.{Player}
 use Rattle.pg_game.specs.Player.{digit_of}
 use Rattle.pg_game.specs.Graph.{Graph}
@@ -10,7 +10,7 @@ use Rattle.pg_game.specs.VertexSet.{In}
 use Rattle.pg_board.specs.BoardRecord.{BoardRecord, SessionRecord}
 use Rattle.pg_board.specs.State.{unsettled}
 use Rattle.pg_board.specs.Board.{IsLawfulBoard}
-use Rattle.pg_board.specs.Slices.{most_slices, most_steps, IsCharged, IsLastCharged}
+use Rattle.pg_board.specs.Slices.{most_slices, most_steps, IsSearch, IsCharged, IsLastCharged}
 use Rattle.pg_board.specs.Journal.{state_of, number_settled}
 use Rattle.pg_board.specs.Full.{IsFull, AreStateRows}
 use Rattle.pg_board.specs.Finish.{IsContinued, MayGiveUp, number_unsettled, priorities_unsettled}
@@ -135,24 +135,27 @@ IsNearer old_steps new_steps old new (fault.Board (board_fault.Unsettled n)) =
     (0 < old_steps → slices_in new < slices_in old) × (slices_in new + (old_steps - new_steps) ≤ slices_in old)
 IsNearer old_steps new_steps old new other = Unit {0}
 
--- where vertices are unsettled, it has left of its steps what a slice of that session leaves: all after a search, and none after one of the recursion
-abbrev pub HasCharged : ℕ → ℕ → Option SessionRecord → Fault → Type 0
-HasCharged old_steps new_steps old (fault.Board (board_fault.Unsettled n)) = IfSome old (λ s. IsCharged (most_steps s.board.graph) s.slices old_steps new_steps)
-HasCharged old_steps new_steps old other = Unit {0}
+-- where vertices are unsettled, it has left what a slice of that session leaves; and where memory was refused, a search has taken no step
+abbrev pub HasCharged : ℕ → ℕ → SessionRecord → Option SessionRecord → Fault → Type 0
+HasCharged old_steps new_steps s new (fault.Board (board_fault.Unsettled n)) =
+    IsCharged (most_steps s.board.graph) s.slices (slices_in new) old_steps new_steps
+HasCharged old_steps new_steps s new fault.Memory = IsSearch (most_steps s.board.graph) s.slices → new_steps ≡ old_steps
+HasCharged old_steps new_steps s new other = Unit {0}
 
 -- and where it settles the last vertex, what the last slice of that session leaves
 abbrev pub HasLastCharged : ℕ → ℕ → SessionRecord → Type 0
 HasLastCharged old_steps new_steps s =
     (v : ℕ) → In (unsettled s.board.graph (state_of s.board.journal)) v → IsLastCharged (most_steps s.board.graph) s.slices old_steps new_steps
 
--- more is settled, also where there is a fault; a closed board takes no step
+-- more is settled, also where there is a fault; a closed board takes no step, and a full one is unchanged and takes none
 pub record IsAdvanceOutcome (old_steps new_steps : ℕ) (old new : Option SessionRecord) (result : Result (Unit {0}) Fault) : Type 0 where
   pub continued : IsContinuedOn old new
   pub full : OnOk result ((t : SessionRecord) × (new ≡ Some t) × IsFull t.board.graph (state_of t.board.journal))
   pub fault : IfErr result (OnBoard new IsAdvanceFault)
   pub nearer : IfErr result (IsNearer old_steps new_steps old new)
-  pub charged : IfErr result (HasCharged old_steps new_steps old)
+  pub charged : IfErr result (λ e. IfSome old (λ s. HasCharged old_steps new_steps s new e))
   pub last : OnOk result (IfSome old (HasLastCharged old_steps new_steps))
+  pub whole : IfSome old (λ s. IsFull s.board.graph (state_of s.board.journal) → OnErr result ⊥ × (new ≡ old) × (new_steps ≡ old_steps))
   pub steps : new_steps ≤ old_steps
   pub closed : old ≡ None → new_steps ≡ old_steps
 

@@ -57,6 +57,8 @@ const BOTH_CHOOSE: &[Vertex] = &[(0, EVEN, &[0, 1]), (0, ODD, &[0, 1])];
 
 const CYCLE: &[Vertex] = &[(1, EVEN, &[1]), (2, EVEN, &[0])];
 
+const TO_A_BAD_CYCLE: &[Vertex] = &[(1, EVEN, &[1]), (1, EVEN, &[2]), (1, EVEN, &[1])];
+
 const ITSELF: &[Vertex] = &[(0, EVEN, &[0])];
 
 const CASES: &[Case] = &[
@@ -89,6 +91,13 @@ const CASES: &[Case] = &[
         ALL,
         Search::Solitaire,
         Some((EVEN, &[(0, Some(1)), (1, Some(0))])),
+    ),
+    // Even can only move to a bad cycle, so Odd wins
+    (
+        TO_A_BAD_CYCLE,
+        ALL,
+        Search::Solitaire,
+        Some((ODD, &[(0, None), (1, None), (2, None)])),
     ),
     // an empty part has nothing
     (ITSELF, 0, Search::Loop(EVEN), None),
@@ -168,8 +177,6 @@ const THREE_ROWS: Answer = (false, &[(0, Some(1)), (1, Some(2)), (2, Some(0))]);
 const TWO_LOOPS: &[Vertex] = &[(0, EVEN, &[0]), (1, EVEN, &[1])];
 
 const FIRST_ROW: Answer = (false, &[(0, Some(0))]);
-
-const TO_A_BAD_CYCLE: &[Vertex] = &[(1, EVEN, &[1]), (1, EVEN, &[2]), (1, EVEN, &[1])];
 
 const SMALL_CASES: &[SmallCase] = &[
     // an empty part has nothing

@@ -53,6 +53,10 @@ noted r (Err refusal.Stale) = record r { stale = r.stale + 1 }
 noted r (Err refusal.Memory) = record r { memory = true }
 noted r (Err fault) = record r { refused = r.refused + 1 }
 
+-- the row as if none of its claims had been posted
+abbrev pub without_posts : ReportRow → ReportRow
+without_posts r = record r { posted = 0; settled = 0 }
+
 -- the number of claims of the job that were posted, stale or refused
 abbrev pub answered : ReportRow → ℕ
 answered r = r.posted + r.stale + r.refused

@@ -5,10 +5,11 @@ use crate::tests::games::{outcome_of, product, solved, two_loops};
 use pg_finders::{Finder, Standard};
 use pg_game::Player;
 use pg_test_support::{EVEN, ODD, Row, check_eq, own_loops};
-use pg_workers::{Options, Pass, ReportRow};
+use pg_workers::{Gate, Options, Pass, ReportRow};
 use std::alloc::Global;
 use std::process::Abort;
 use std::sync::Wait;
+use std::sync::atomic::{AtomicU64, Ordering};
 use std::thread::Threads;
 
 /// A job's numbers posted, settled, stale and refused, whether it gave up, and whether it had no memory.
@@ -143,6 +144,38 @@ fn compare_numbers(rt: &impl Abort, row: &ReportRow, before: u32) {
     check_eq!(*rt; (answered, row.gave_up, row.memory), want, row.job);
 }
 
+/// Adds up the numbers of the jobs, from one on, at each call of a gate.
+#[derive(Drop)]
+struct Sums {
+    found: AtomicU64,
+    posted: AtomicU64,
+}
+
+impl Gate for Sums {
+    fn found<R: Wait>(&self, _rt: &R, _worker: u32, job: u64) {
+        self.found.fetch_add(job.wrapping_add(1), Ordering::SeqCst);
+    }
+
+    fn posted<R: Wait>(&self, _rt: &R, _worker: u32, job: u64) {
+        self.posted.fetch_add(job.wrapping_add(1), Ordering::SeqCst);
+    }
+}
+
+impl Sums {
+    fn new() -> Sums {
+        Sums {
+            found: AtomicU64::new(0),
+            posted: AtomicU64::new(0),
+        }
+    }
+
+    /// Each of the 13 jobs made both calls.
+    fn compare(self, rt: &impl Abort) {
+        check_eq!(*rt; self.found.into_inner(), 91);
+        check_eq!(*rt; self.posted.into_inner(), 91);
+    }
+}
+
 /// A run on 300 vertices, whose 13 rows are compared.
 fn assert_numbers<R: Threads + Wait + Abort + Sync>(rt: &R, alloc: Global, workers: u32) {
     assert!(*rt; 1 <= workers && workers <= 64);
@@ -151,7 +184,9 @@ fn assert_numbers<R: Threads + Wait + Abort + Sync>(rt: &R, alloc: Global, worke
     let finder = Numbered {
         recorder: Recorder::with_places(alloc, 13).expect(rt, "memory"),
     };
-    let outcome = solved(rt, alloc, &game, &options, &Pass, &finder);
+    let sums = Sums::new();
+    let outcome = solved(rt, alloc, &game, &options, &sums, &finder);
+    sums.compare(rt);
     check_eq!(*rt; outcome.report.len(), 13);
     for number in 0..options.total(game.len()) {
         let before = finder.recorder.before(rt, options.job(game.len(), number));

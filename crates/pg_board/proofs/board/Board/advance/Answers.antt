@@ -4,7 +4,7 @@ use Rattle.pg_board.specs.private.Stage.{IsStageOf}
 use Rattle.pg_board.specs.declared.advance.Stage.{Stage}
 use Rattle.pg_board.specs.Work.{total_of}
 use Rattle.pg_board.proofs.OwnEntries.{same_continued}
-use Rattle.pg_board.proofs.Slices.{begun_nearer, begun_taken, further_nearer, further_taken, few_left, charged_all, charged_last, full_shut}
+use Rattle.pg_board.proofs.Slices.{begun_nearer, begun_taken, further_nearer, further_taken, few_left, charged_all, charged_last, no_refused_search, full_shut}
 use Rattle.pg_board.proofs.board.Board.advance.Goals as goal
 
 pub returns-then-is_full-clause-continued : goal.returns-then-is_full-clause-continued
@@ -25,7 +25,7 @@ pub returns-in_ok-recursion-in-Search-2-clause-charged : goal.returns-in_ok-recu
 returns-in_ok-recursion-in-Search-2-clause-charged c =
     let total : total_of 4 (length c.args.self.now.graph) ≡ c.total.result = search rules in
     let last : total_of 4 (length c.args.self.now.graph) ≤ c.in-Search.number + 1 = omega (arith, total, c.if-number-total.false) in
-    charged_all (most_steps c.args.self.now.graph) _ c.args.steps.now _ _ c.post_steps.result (few_left _ _ c.in-Search.number c.in-Search.is last) c.post_steps.ensures.spent
+    charged_all c.args.self.now.graph (most_steps c.args.self.now.graph) _ c.args.steps.now _ _ c.post_steps.result (few_left _ _ c.in-Search.number c.in-Search.is last) c.post_steps.ensures.spent
 
 pub returns-in_ok-recursion-in-Search-2-clause-last : goal.returns-in_ok-recursion-in-Search-2-clause-last
 returns-in_ok-recursion-in-Search-2-clause-last c =
@@ -49,7 +49,7 @@ returns-in-Recursion-clause-charged c =
     let run = subst (λ (x : Stage). IsStageOf g c.args.self.now.journal x) c.in-Recursion.is c.requires.stage in
     let few : slices_left g c.args.stage ≤ 1 + most_steps g =
     subst (λ (x : Stage). slices_left g x ≤ 1 + most_steps g) (sym c.in-Recursion.is) (omega (arith, run.few)) in
-    charged_all (most_steps g) _ c.args.steps.now _ _ c.post_steps-in-Recursion.result few c.post_steps-in-Recursion.ensures.spent
+    charged_all g (most_steps g) _ c.args.steps.now _ _ c.post_steps-in-Recursion.result few c.post_steps-in-Recursion.ensures.spent
 
 pub returns-in-Recursion-clause-last : goal.returns-in-Recursion-clause-last
 returns-in-Recursion-clause-last c =
@@ -58,3 +58,17 @@ returns-in-Recursion-clause-last c =
     let few : slices_left g c.args.stage ≤ 1 + most_steps g =
     subst (λ (x : Stage). slices_left g x ≤ 1 + most_steps g) (sym c.in-Recursion.is) (omega (arith, run.few)) in
     charged_last (most_steps g) _ c.args.steps.now _ _ _ c.post_steps-in-Recursion.result few c.post_steps-in-Recursion.ensures.last
+
+pub returns-in_ok-recursion-in-Search-2-clause-refused : goal.returns-in_ok-recursion-in-Search-2-clause-refused
+returns-in_ok-recursion-in-Search-2-clause-refused c =
+    let total : total_of 4 (length c.args.self.now.graph) ≡ c.total.result = search rules in
+    let last : total_of 4 (length c.args.self.now.graph) ≤ c.in-Search.number + 1 = omega (arith, total, c.if-number-total.false) in
+    no_refused_search (most_steps c.args.self.now.graph) _ _ c.post_steps.result (few_left _ _ c.in-Search.number c.in-Search.is last)
+
+pub returns-in-Recursion-clause-refused : goal.returns-in-Recursion-clause-refused
+returns-in-Recursion-clause-refused c =
+    let g = c.args.self.now.graph in
+    let run = subst (λ (x : Stage). IsStageOf g c.args.self.now.journal x) c.in-Recursion.is c.requires.stage in
+    let few : slices_left g c.args.stage ≤ 1 + most_steps g =
+    subst (λ (x : Stage). slices_left g x ≤ 1 + most_steps g) (sym c.in-Recursion.is) (omega (arith, run.few)) in
+    no_refused_search (most_steps g) _ _ c.post_steps-in-Recursion.result few

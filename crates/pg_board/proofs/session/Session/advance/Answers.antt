@@ -1,5 +1,5 @@
-use Rattle.pg_board.proofs.Common.{◌≡◌, ◌≤◌, ◌+◌, ◌-◌, ℕ, false, ap, rules, state_of, IsFull, In, unsettled, arith, arc_value}
-use Rattle.pg_board.specs.BoardRecord.{SessionRecord}
+use Rattle.pg_board.proofs.Common.{◌≡◌, ◌≤◌, ◌+◌, ◌-◌, ℕ, false, ap, rules, subst, state_of, IsFull, In, unsettled, arith, arc_value}
+use Rattle.pg_board.specs.BoardRecord.{BoardRecord, SessionRecord}
 use Rattle.pg_board.specs.Slices.{slices_left, IsCharged, IsLastCharged}
 use Rattle.pg_board.proofs.Slices.{still_open, in_session, charged_in_session}
 use Rattle.pg_board.proofs.session.Session.advance.Goals as goal
@@ -32,7 +32,7 @@ pub returns-clause-charged : goal.returns-clause-charged
 returns-clause-charged c = λ open_still.
     let graph : c.attach-board.result.graph ≡ arc_value c.self.inside.game = search rules in
     let stage : c.replace-stage.result ≡ c.self.inside.stage = search rules in
-    charged_in_session (λ n k. IsCharged n k c.args.steps.now c.advance-answer.new.steps) _ _ _ _ c.args.self.now graph stage
+    charged_in_session (λ g n k. IsCharged n k (slices_left g c.in_ok-self-inside.field-0) c.args.steps.now c.advance-answer.new.steps) _ _ _ _ c.args.self.now graph stage
     (ap (λ (x : SessionRecord). x.board.graph) c.self.view_is) (ap (λ (x : SessionRecord). x.slices) c.self.view_is)
     (c.in_ok-self-inside.ensures.charged (not_full c open_still))
 
@@ -42,6 +42,21 @@ returns-clause-last c = λ done v o.
     let stage : c.replace-stage.result ≡ c.self.inside.stage = search rules in
     let full : IsFull c.advance-answer.new.self.graph (state_of c.advance-answer.new.self.journal) = search rules in
     let before : In (unsettled c.attach-board.result.graph (state_of c.attach-board.result.journal)) v = search rules in
-    charged_in_session (λ n k. IsLastCharged n k c.args.steps.now c.advance-answer.new.steps) _ _ _ _ c.args.self.now graph stage
+    charged_in_session (λ g n k. IsLastCharged n k c.args.steps.now c.advance-answer.new.steps) _ _ _ _ c.args.self.now graph stage
     (ap (λ (x : SessionRecord). x.board.graph) c.self.view_is) (ap (λ (x : SessionRecord). x.slices) c.self.view_is)
     (c.in_ok-self-inside.ensures.last full v before)
+
+pub returns-clause-whole : goal.returns-clause-whole
+returns-clause-whole c = λ full.
+    let board : c.args.self.now.board ≡ c.attach-board.result = search rules in
+    let before : IsFull c.attach-board.result.graph (state_of c.attach-board.result.journal) =
+    subst (λ (b : BoardRecord). IsFull b.graph (state_of b.journal)) board full in
+    let same = c.in_ok-self-inside.ensures.whole before in
+    search (rules, same.0, same.1, same.2, before)
+
+pub returns-in_err-self-inside-clause-whole : goal.returns-in_err-self-inside-clause-whole
+returns-in_err-self-inside-clause-whole c = λ full.
+    let board : c.args.self.now.board ≡ c.attach-board.result = search rules in
+    let before : IsFull c.attach-board.result.graph (state_of c.attach-board.result.journal) =
+    subst (λ (b : BoardRecord). IsFull b.graph (state_of b.journal)) board full in
+    absurd (search (rules, c.in_err-self-inside.ensures.whole before))
