@@ -1,7 +1,7 @@
 #!/usr/bin/env python3
 """Writes specifications of controllers in the HOA format, and measures `synthesise` on them:
-`specifications.py FOLDER [NAME..]`. A name is arbiter_N of N clients, counter_N of N bits, lift_N of N
-floors or random_N of N propositions; with _turns after it the players take turns.
+`specifications.py FOLDER [NAME..]`. A name is arbiter_N or unasked_N of N clients, counter_N of N bits, lift_N
+of N floors or random_N of N propositions; with _turns after it the players take turns.
 """
 
 import os
@@ -13,6 +13,7 @@ import sys
 HERE = os.path.dirname(os.path.abspath(__file__))
 COMMAND = os.path.join(HERE, "..", "bindings", "python", "pgboard")
 NAMES = [f"arbiter_{n}{turns}" for turns in ("", "_turns") for n in (2, 4, 8, 12, 16)]
+NAMES += [f"unasked_{n}" for n in (2, 4, 8, 12, 16)]
 NAMES += [f"{kind}_{n}{turns}" for kind in ("counter", "lift") for turns in ("", "_turns") for n in (4, 8)]
 NAMES += [f"random_{20 + at}" for at in range(1, 21)]
 
@@ -61,7 +62,7 @@ class Specification:
         return "\n".join([*lines, players, "--BODY--", *first, *later, "--END--", ""])
 
 
-def arbiter(clients):
+def arbiter(clients, asked=""):
     """At most one client is granted at a time. A client whose turn it is has not asked, or waits until it is
     granted; then it is the next one's turn.
     """
@@ -73,7 +74,7 @@ def arbiter(clients):
     for it in reversed(range(clients)):
         none, one = made.aliases[-2][0], made.aliases[-1][0]
         made.aliases.append((f"@none{it}", f"!{grant(it)} & {none}"))
-        made.aliases.append((f"@one{it}", f"{grant(it)} & {none} | !{grant(it)} & {one}"))
+        made.aliases.append((f"@one{it}", f"{grant(it)}{asked.format(it)} & {none} | !{grant(it)} & {one}"))
     for it in range(clients):
         after = (it + 1) % clients
         done = f"@one0 & {grant(it)}", 2 * after, "{0}"
@@ -81,6 +82,11 @@ def arbiter(clients):
         made.add({f"!{it}": [("@one0", 2 * after, "{0}")], str(it): [done, waits]})
         made.add({"t": [done, waits]})
     return made
+
+
+def unasked(clients):
+    """An arbiter that grants nothing unasked. So a client whose turn it is waits until it asks once more."""
+    return arbiter(clients, " & {}")
 
 
 def counter(bits):
@@ -140,7 +146,7 @@ def drawn(propositions):
     return made
 
 
-KINDS = {"arbiter": arbiter, "counter": counter, "lift": lift, "random": drawn}
+KINDS = {"arbiter": arbiter, "unasked": unasked, "counter": counter, "lift": lift, "random": drawn}
 
 
 def text_of(name):

@@ -6,6 +6,7 @@ What a board settles is tested in C, where a plain board replays what threads po
 import copy
 import ctypes
 import gc
+import itertools
 import pathlib
 import pickle
 import sys
@@ -26,13 +27,6 @@ def loops(size):
 
 
 class Boards(Tests):
-    def replaced_library(self, other):
-        """Has the board call another library, to the end of the test. Returns the true one."""
-        true = library.LIBRARY
-        self.addCleanup(setattr, library, "LIBRARY", true)
-        library.LIBRARY = other
-        return true
-
     def test_posts_and_all_that_can_be_read(self):
         board = pgboard.Board([0, 1, 0, 1, 0], [2, 1, 0, 1, 1], [[0, 1], [1], [0, 3], [2, 3], [0, 1]])
         self.raises(pgboard.Unsettled(5), board.solution)
@@ -79,24 +73,12 @@ class Boards(Tests):
             self.assertEqual((board.vertex(0).id, board.vertex(1)), (0, (1, 1, 1, array("I", [1]))))
             self.assertEqual(board.solution_text(), "paritysol 1;\n0 0 0;\n1 1 1;\n")
 
-    def test_the_order_of_a_mapping_has_no_effect(self):
-        board = pgboard.Board(*loops(3))
-        self.assertEqual(board.post(0, {2: 2, 0: 0, 1: 1}), (0, 3, 3))
-        self.raises(pgboard.BadShape(1), pgboard.Board(*loops(3)).post_arrays, 0, [2, 0], [2, 0])
-
     def test_the_state_is_read_again_after_a_refused_read(self):
-        class Refusing:
-            def __getattr__(self, name):
-                return getattr(true, name)
-
-            def pgboard_board_state(self, *_):
-                library.LIBRARY = true
-                return 1
-
-        board = pgboard.Board(*TWO)
+        board, answers = pgboard.Board(*TWO), [1]
         self.assertEqual(board.winner(0), None)
         board.post(0, {0: 0})
-        true = self.replaced_library(Refusing())
+        refused = lambda true, *given: answers.pop() if answers else true(*given)
+        self.other_library("pgboard_board_state", refused)
         with self.assertRaises(pgboard.OutOfMemory):
             board.state()
         self.assertEqual((board.winner(0), board.unsettled()), (0, array("I", [1])))
@@ -106,17 +88,14 @@ class Boards(Tests):
         self.assertIs(type(library.LIBRARY.loaded), ctypes.CDLL)  # which releases the interpreter's lock
         libc.pthread_mutex_lock(lock)
 
-        class Slow:
-            def __getattr__(self, name):
-                return getattr(true, name)
+        def slowly(true, *given):
+            reached.set()
+            libc.pthread_mutex_lock(lock)
+            libc.pthread_mutex_unlock(lock)
+            return true(*given)
 
-            def pgboard_board_advance(self, *arguments):
-                reached.set()
-                libc.pthread_mutex_lock(lock)
-                libc.pthread_mutex_unlock(lock)
-                return true.pgboard_board_advance(*arguments)
-
-        true, found = self.replaced_library(Slow()), []
+        found = []
+        self.other_library("pgboard_board_advance", slowly)
         slow, other = pgboard.Board(*TWO), pgboard.Board(*TWO)
         threads = [self.begun(slow.finish)[0]]
         self.assertTrue(reached.wait(60))
@@ -156,14 +135,14 @@ class Boards(Tests):
     def test_what_changes_during_a_call_has_no_effect(self):
         claim = [array("I", [1]), array("I", [1])]
 
-        class Late:
-            def __getattr__(self, name):
-                for it in (*game, *claim, *solution):
-                    it[0] = it[-1] = 9
-                return getattr(true, name)
+        def late(true, *given):
+            for it in (*game, *claim, *solution):
+                it[0] = it[-1] = 9
+            return true(*given)
 
         board = pgboard.Board(*TWO)
-        true = self.replaced_library(Late())
+        for name in ("solve", "check", "board_open", "board_post"):
+            self.other_library(f"pgboard_{name}", late)
         for call in (
             lambda: self.assertEqual(pgboard.solve_csr(*game), SOLVED),
             lambda: self.assertIsNone(pgboard.verify_csr(*game, *solution)),
@@ -178,9 +157,10 @@ class Boards(Tests):
         board = pgboard.Board(*TWO)
         entries = board.entries
         board.post(0, {0: 0})
-        with board as same:
+        # (a block closes where it raises)
+        with self.assertRaises(pgboard.Stale), board as same:
             self.assertIs(same, board)
-        board.close()
+            board.post(0, {0: 0})
         with self.assertRaises(pgboard.Closed), board:
             self.fail("a closed board was entered")
         calls = [
@@ -211,13 +191,6 @@ class Boards(Tests):
         self.assertEqual(board.state(), (array("B", [255, 1]), array("I", [NONE, 1])))
         self.assertEqual((board.unsettled(), board.winner(1), board.choice(0)), (array("I", [0]), 1, None))
         self.assertEqual(owned, [True] * 7)
-
-    def test_a_block_closes_where_it_raises(self):
-        with self.assertRaises(pgboard.Stale), pgboard.Board(*TWO) as board:
-            board.post(0, {0: 0})
-            board.post(0, {0: 0})
-        with self.assertRaises(pgboard.Closed):
-            board.settled
 
     def test_memory_is_freed_where_a_board_ends(self):
         size = 20_000
@@ -281,8 +254,10 @@ class Boards(Tests):
         other = Mine.from_csr(*CSR)
         self.assertEqual((type(other), other.post(0, {0: 0})), (Mine, (0, 1, 1)))
 
-    def test_numbers_and_types_that_are_refused(self):
-        board, whole = pgboard.Board(*TWO), "has to be an integer, not"
+    def test_what_is_refused(self):
+        """By Python, and by the library, which is tested in C, with no place, one and two."""
+        board = pgboard.Board([0, 1, 0, 1], [2, 1, 0, 1], [[0, 1], [1], [0, 3], [2, 3]])
+        whole = "has to be an integer, not"
         for claim in (None, [(0, 0)]):
             said = f"choices are a mapping from vertices, not {type(claim).__name__}"
             self.raises(TypeError(said), board.post, 0, claim)
@@ -303,50 +278,27 @@ class Boards(Tests):
                 ("choices[0]", 0, {0: wrong}, 0),
             ):
                 self.raises(ValueError(f"{name}: {wrong} is out of range"), board.post, player, claim, worker)
-        for v in (-1, 2, 2**32):
-            for call in (board.winner, board.choice):
-                self.raises(IndexError(f"{v} is no vertex"), call, v)
-        for player in (2, 2**32 - 1):
-            self.raises(pgboard.BadPlayer(player), board.post, player, {0: 0})
+        for v, call in itertools.product((-1, 4, 2**32), (board.winner, board.choice)):
+            self.raises(IndexError(f"{v} is no vertex"), call, v)
+        for fault, player, claim in (
+            (pgboard.BadPlayer(2**32 - 1), 2**32 - 1, {0: 0}),
+            (pgboard.BadShape(0), 0, {2**32 - 2: None}),
+            (pgboard.ClaimCycle(3), 0, {2: 3, 3: None}),
+            (pgboard.Open(2, 3), 0, {2: 3}),
+        ):
+            self.raises(fault, board.post, player, claim)
         self.raises(pgboard.BadPlayer(255), board.post_arrays, 255, b"", [1])
-        # a vertex, a choice that the player needs, and one that he may not have
-        for far in (256, 2**32 - 2):
-            for player, claim in ((0, {far: None}), (0, {0: far}), (1, {0: far})):
-                self.raises(pgboard.BadShape(0), board.post, player, claim)
+        self.raises(pgboard.BadClaimLengths(2, 1), board.post_arrays, 0, [0, 1], [0])
         self.assertEqual((board.settled, len(board.entries)), (0, 0))
 
-    def test_refusals_have_places_and_texts(self):
-        board = pgboard.Board([0, 1, 0, 1], [2, 1, 0, 1], [[0, 1], [1], [0, 3], [2, 3]])
-        shape = "row 1: there is none, or its vertex is not in the game or "
-        cycle = "vertex 3: its priority is the other player's, and the greatest on a closed walk in the claim"
-        opens = "vertex 2: a kept edge leads to 3, which is neither in the claim nor settled for its player"
-        for fault, player, claim, said in (
-            (pgboard.BadShape(1), 0, {2: 3, 3: 2}, shape),
-            (pgboard.BadShape(0), 1, {}, ""),
-            (pgboard.ClaimCycle(3), 0, {2: 3, 3: None}, cycle),
-            (pgboard.Open(2, 3), 0, {2: 3}, opens),
-            (None, 0, {0: 0}, ""),
-            (pgboard.Stale(), 0, {0: 0}, "each vertex of the claim is settled for its player"),
-            (pgboard.Lost(2), 1, {2: None}, "vertex 2 is settled for the other player"),
-        ):
-            if fault:
-                self.assertTrue(isinstance(fault, pgboard.RefusedClaim) and str(fault).startswith(said), fault)
-                self.raises(fault, board.post, player, claim)
-            else:
-                board.post(player, claim)
-        lengths = pgboard.BadClaimLengths(2, 1)
-        self.raises(lengths, board.post_arrays, 0, [0, 1], [0])
-        self.assertEqual(str(lengths), "there are 2 vertices and 1 choices")
-        self.assertTrue(issubclass(pgboard.RefusedClaim, pgboard.Refused))
-
-    def test_entries_are_a_sequence(self):
-        board = pgboard.Board(*loops(5))
+    def test_entries_are_a_sequence_and_a_mapping_has_no_order(self):
+        board = pgboard.Board(*loops(7))
         entries = board.entries
-        for v in range(5):
+        for v in range(4):
             self.assertEqual(len(entries), v)
             board.post(0, {v: v}, worker=v)
-        self.assertEqual([it.worker for it in entries], [0, 1, 2, 3, 4])
-        self.assertEqual([it.worker for it in reversed(entries)], [4, 3, 2, 1, 0])
+        self.assertEqual(board.post(0, {6: 6, 4: 4, 5: 5}), (4, 3, 3))
+        self.assertEqual([it.worker for it in reversed(entries)], [0, 3, 2, 1, 0])
         self.assertEqual([it.worker for it in entries[-2:0:-2]], [3, 1])
         self.assertEqual((entries[-5].worker, entries.index(entries[2])), (0, 2))
         for at in (5, -6, 2**64):

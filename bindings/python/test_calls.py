@@ -211,25 +211,19 @@ class Slices(Tests):
             return took, outcome_of(lambda: slices.advance(slow, vertices, limits, None))
 
     def test_slices_take_some_milliseconds(self):
-        for cost in (1e-6, 3e-6, 1e-5, 1e-4, 1e-3, 0.004):
-            took, ended = self.by_clock(cost, timeout=2)
+        for cost, wait in (*((it, 0) for it in (1e-6, 1e-5, 1e-3, 0.004)), (1e-6, 0.05)):
+            # (a wait is no part of a slice)
+            took, ended = self.by_clock(cost, timeout=20 if wait else 2, wait=wait)
             self.assertEqual(ended, (pgboard.TimedOut, 0, 0))
-            self.assertLessEqual(max(took), 0.03, cost)
-            self.assertGreaterEqual(min(took[20:]), 0.01, cost)
+            self.assertTrue(0.01 <= min(took[20:]) and max(took) <= 0.03, cost)
         self.assertEqual(set(self.by_clock(0.5, timeout=5)[0]), {0.5})
-        # (a wait is no part of a slice)
-        took, _ = self.by_clock(1e-6, timeout=20, wait=0.05)
-        self.assertTrue(0.01 <= min(took[20:]) <= max(took) <= 0.03)
         # (the steps get slow in the middle: a slice or two are long, and then none)
         took, _ = self.by_clock(1e-6, timeout=60, slowest=1e-3)
         late = took[[it > 0.03 for it in took].index(True) :]
-        self.assertLessEqual(sum(it > 0.03 for it in late), 2)
-        self.assertGreater(len(late), 100)
+        self.assertTrue(sum(it > 0.03 for it in late) <= 2 and len(late) > 100)
         # (of a large game the first long slice has few steps)
         took, _ = self.by_clock(1e-6, timeout=30, slowest=0.01, vertices=10**6)
-        self.assertEqual(
-            (max(took), [round(it * 1e6) for it in took[:7]]), (20 * 0.01, [1, 2, 4, 8, 16, 20, 20])
-        )
+        self.assertEqual((max(took), [round(it * 1e6) for it in took[:7]]), (0.2, [1, 2, 4, 8, 16, 20, 20]))
 
     def test_the_time_that_it_takes_to_open_a_board_counts(self):
         now, begin = [100.0], pgboard.library.Handle.open
@@ -247,21 +241,22 @@ class Slices(Tests):
 
     def test_limits_are_looked_at_before_each_slice(self):
         cancel = pgboard.Cancel()
-        took, ended = self.by_clock(0.25, timeout=1)
-        self.assertEqual((took, ended), ([0.25] * 4, (pgboard.TimedOut, 0, 0)))
-        self.assertEqual(self.by_clock(0.25, timeout=1, needed=4), ([0.25] * 4, None))
-        self.assertEqual(self.by_clock(0.25, timeout=0), ([], (pgboard.TimedOut, 0, 0)))
-        self.assertEqual(self.by_clock(0.25, cancel=cancel, needed=3), ([0.25] * 3, None))
-        cancel.cancel()
-        self.assertEqual(self.by_clock(0.25, cancel=cancel), ([], (pgboard.Cancelled, 0, 0)))
+        timed_out, cancelled = (pgboard.TimedOut, 0, 0), (pgboard.Cancelled, 0, 0)
+        for how, count, ended in (
+            ({"timeout": 1}, 4, timed_out),
+            ({"timeout": 1, "needed": 4}, 4, None),
+            ({"timeout": 0}, 0, timed_out),
+            ({"cancel": cancel, "needed": 3}, 3, None),
+        ):
+            self.assertEqual(self.by_clock(0.25, **how), ([0.25] * count, ended))
 
         def take(steps):
-            take.cancel.cancel()
+            cancel.cancel()
             return slices.Slice(False, steps, 0)
 
-        take.cancel = pgboard.Cancel()
-        with self.assertRaises(pgboard.Cancelled):
-            slices.advance(take, 5, slices.Limits(None, take.cancel), 5)
+        limits = slices.Limits(None, cancel)
+        self.assertEqual(outcome_of(lambda: slices.advance(take, 5, limits, 5)), cancelled)
+        self.assertEqual(self.by_clock(0.25, cancel=cancel), ([], cancelled))
 
 
 if __name__ == "__main__":

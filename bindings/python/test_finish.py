@@ -55,30 +55,26 @@ class Finishing(Tests):
         self.assertEqual(views, views[:1] * 3)
 
     def test_what_is_settled_stays_where_memory_is_refused(self):
-        class Refusing:
-            calls = 0
+        calls, game = [], lists_of(plain.ladder(40))
 
-            def __getattr__(self, name):
-                return getattr(true, name)
+        def refusing(true, *given):
+            calls.append(given)
+            return 1 if len(calls) == 4 else true(*given)
 
-            def pgboard_board_advance(self, *arguments):
-                self.calls += 1
-                return 1 if self.calls == 4 else true.pgboard_board_advance(*arguments)
-
-        true, game = library.LIBRARY, lists_of(plain.ladder(40))
-        with mock.patch.object(library, "LIBRARY", Refusing()):
-            with pgboard.Board([*game[0], 0], [*game[1], 2], [*game[2], [len(game[0])]]) as board:
-                with self.assertRaises(pgboard.OutOfMemory):
-                    board.finish()
-                before = board.entries[:]
-                self.assertEqual(board.winner(len(game[0])), 0)
+        self.other_library("pgboard_board_advance", refusing)
+        with pgboard.Board([*game[0], 0], [*game[1], 2], [*game[2], [len(game[0])]]) as board:
+            with self.assertRaises(pgboard.OutOfMemory):
                 board.finish()
-                self.assertEqual(
-                    (board.entries[: len(before)], list(board.solution().winners)),
-                    (before, [*pgboard.solve(*game)[0], 0]),
-                )
-            self.assertGreater(library.LIBRARY.calls, 10)
-        with mock.patch.object(library, "LIBRARY", Refusing()), self.assertRaises(pgboard.OutOfMemory):
+            before = board.entries[:]
+            self.assertEqual(board.winner(len(game[0])), 0)
+            board.finish()
+            self.assertEqual(
+                (board.entries[: len(before)], list(board.solution().winners)),
+                (before, [*pgboard.solve(*game)[0], 0]),
+            )
+        self.assertGreater(len(calls), 10)
+        calls.clear()
+        with self.assertRaises(pgboard.OutOfMemory):
             pgboard.solve(*game)
 
     def wait_for(self, holds):

@@ -92,34 +92,32 @@ class Tests(unittest.TestCase):
         thread.start()
         return thread, raised
 
+    def other_library(self, name, call):
+        """Has a call of the library be another one, to the end of the test; that gets the true one first."""
+        true = pgboard.library.LIBRARY
+        one = functools.partial(call, getattr(true, name))
+        found = lambda _, asked: one if asked == name else getattr(true, asked)
+        self.addCleanup(setattr, pgboard.library, "LIBRARY", true)
+        pgboard.library.LIBRARY = type("Other", (), {"__getattr__": found})()
+
 
 class Arrays(Tests):
-    # a game that is refused, and how
+    # of each call a fault without a place, with one and with two; what C refuses is tested in C
     GAMES = [
         (pgboard.NoVertex(), [], [], []),
         (pgboard.BadLengths(1), [0], [0, 1], [[0]]),
-        (pgboard.BadLengths(2), [0, 0], [0, 1], [[0]]),
-        (pgboard.BadOwner(1), [0, 2], [0, 1], [[0], [0]]),
-        (pgboard.BadPriority(1), [0, 0], [0, 2**31], [[0], [0]]),
-        (pgboard.NoSuccessor(1), [0, 0], [0, 1], [[0], []]),
         (pgboard.UnknownSuccessor(1, 2), [0, 0], [0, 1], [[0], [2]]),
     ]
-    # what TWO has no solution of, and what isn't known of it
     SOLUTIONS = [
         (pgboard.BadResults(5), [0, 1], [0]),
         (pgboard.BadWinner(1), [0, None], [0, 1]),
         (pgboard.NoChoice(0), [0, 1], [None, 1]),
-        (pgboard.BadChoice(0), [0, 1], [2**32 - 2, 1]),
         (pgboard.Leaves(0, 1), [0, 1], [1, 1]),
     ]
     KNOWN = [
         (pgboard.KnownChoice(0), [0, None], [None, None]),
-        (pgboard.KnownChoice(0), [0, 1], [2**31, 1]),
         (pgboard.KnownLeaves(0, 1), [0, None], [1, None]),
-        (pgboard.KnownCycle(1), [None, 0], [None, None]),
-        (pgboard.KnownChoice(1), [0, 1], [0, None]),
         (pgboard.BadWinner(1), [None, 2], [None, None]),
-        (pgboard.BadWinner(0), [7, 1], [0, 1]),
         (pgboard.BadResults(4), [0], [0, 1]),
     ]
 
@@ -130,19 +128,16 @@ class Arrays(Tests):
         self.assertEqual(pgboard.solve([1], [0], [[0]]), ([0], [None]))
         pgboard.verify([1], [0], [[0]], iter([0]), iter([None]))
 
-    def test_refuses_games_and_solutions(self):
+    def test_refuses_games_solutions_and_what_is_known(self):
+        """What is known by one call, and by posts to a board, which come before it in a large game."""
         for fault, *game in self.GAMES:
-            self.raises(fault, pgboard.solve, *game)
-            self.raises(fault, pgboard.Board, *game)
-            self.raises(fault, pgboard.verify, *game, [0], [0])
+            for call, *more in ((pgboard.solve,), (pgboard.Board,), (pgboard.verify, [0], [0])):
+                self.raises(fault, call, *game, *more)
+        # (the library takes no null pointer, not even of an empty array)
+        self.assertTrue(pgboard.native.span_of(array("I"))[0])
         for fault, *solution in self.SOLUTIONS:
             self.raises(fault, pgboard.verify, *TWO, *solution)
-
-    def test_refuses_what_is_known(self):
-        """By one call, and by posts to a board, which come before the one call where a game is not small."""
-        lost, loops = ([0, 1], [2, 1], [[0], [0]]), ([0, 1], [1, 1], [[0], [1]])
         rows = [(fault, TWO, known) for fault, *known in self.KNOWN]
-        rows += [(pgboard.KnownLost(1), lost, ([0, 1], [0, 0])), (pgboard.KnownCycle(0), loops, ([0, 1], [0, None]))]
         rows += [(fault, game, ([None] * len(game[0]),) * 2) for fault, *game in self.GAMES[1:]]
         for size, (fault, game, known) in itertools.product((pgboard.solving.SMALL, -1), rows):
             with mock.patch.object(pgboard.solving, "SMALL", size):
@@ -152,48 +147,40 @@ class Arrays(Tests):
         for levels in (3, 10):
             game = lists_of(plain.ladder(levels))
             solved, nothing = pgboard.solve(*game), ([None] * len(game[0]),) * 2
-            self.raises(pgboard.GaveUp(), pgboard.solve, *game, steps=0)
-            self.raises(pgboard.GaveUp(), pgboard.solve, *game, nothing, 0)
-            self.assertEqual(pgboard.solve(*game, nothing, 10**6), solved)
-            self.assertEqual(pgboard.solve(*game, solved, 0), solved)
-            wrong = [1 - it for it in solved[0]], solved[1]
+            for known in (None, nothing):
+                self.raises(pgboard.GaveUp(), pgboard.solve, *game, known, 0)
+            for known, steps in ((nothing, 10**6), (solved, 0), *((None, it) for it in (2**64 - 1, 2**64))):
+                self.assertEqual(pgboard.solve(*game, known, steps), solved)
             with self.assertRaises(pgboard.NotKnown):
-                pgboard.solve(*game, wrong, 0)
-            for steps in (10**6, 2**64 - 1, 2**64, 2**70):
-                self.assertEqual(pgboard.solve(*game, steps=steps), solved)
+                pgboard.solve(*game, ([1 - it for it in solved[0]], solved[1]), 0)
 
     def test_arguments_of_another_type_or_out_of_range_are_named(self):
-        whole, listed = "has to be an integer, not", "a list is needed, not int"
-        for error, at, wrong in (
-            (TypeError(f"owners: {listed}"), 0, 5),
-            (TypeError(f"priorities: {listed}"), 1, 5),
-            (TypeError(f"successors: {listed}"), 2, 5),
-            (TypeError(f"successors[1]: {listed}"), 2, [[0, 1], 1]),
-            (TypeError(f"owners[0] {whole} str"), 0, ["0", 1]),
-            (TypeError(f"priorities[1] {whole} NoneType"), 1, [2, None]),
-            (TypeError(f"successors[1][1] {whole} str"), 2, [[0, 1], [1, "1"]]),
-            (ValueError("owners[1]: 256 is out of range"), 0, iter([0, 256])),
-            (ValueError("priorities[0]: -1 is out of range"), 1, iter([-1, 0])),
-            (ValueError(f"successors[1][0]: {2**32} is out of range"), 2, [[0, 1], iter([2**32])]),
-        ):
-            self.raises(error, pgboard.solve, *with_one(TWO, at, wrong))
+        whole, listed, far = "has to be an integer, not", "a list is needed, not int", "is out of range"
         pair = "known: a pair of winners and choices is needed, not"
-        for error, known in ((5, "int"), ([[0, 1]], "list"), ((1, 2, 3), "tuple")):
-            self.raises(TypeError(f"{pair} {known}"), pgboard.solve, *TWO, known=error)
-            self.raises(TypeError(f"{pair} {known}"), pgboard.solve_csr, *CSR, known=error)
-        for error, winners, choices in (
-            (TypeError(f"winners: {listed}"), 5, [0, 1]),
-            (TypeError(f"choices: {listed}"), [0, 1], 5),
-            *((TypeError(f"choices[0] {whole} {type(it).__name__}"), [0, 1], [it, 1]) for it in (0.5, "0")),
-            (ValueError(f"winners[1]: {2**40} is out of range"), iter([0, 2**40]), [0, 1]),
-            (ValueError("choices[1]: -1 is out of range"), [0, 1], iter([0, -1])),
+        solve = lambda at, it: pgboard.solve(*with_one(TWO, at, it))
+        claim = functools.partial(pgboard.verify, *TWO)
+        for said, call, *given in (
+            (f"owners: {listed}", solve, 0, 5),
+            (f"successors: {listed}", solve, 2, 5),
+            (f"successors[1]: {listed}", solve, 2, [[0, 1], 1]),
+            (f"owners[0] {whole} str", solve, 0, ["0", 1]),
+            (f"priorities[1] {whole} NoneType", solve, 1, [2, None]),
+            (f"successors[1][1] {whole} str", solve, 2, [[0, 1], [1, "1"]]),
+            (f"owners[1]: 256 {far}", solve, 0, iter([0, 256])),
+            (f"priorities[0]: -1 {far}", solve, 1, iter([-1, 0])),
+            (f"successors[1][0]: {2**32} {far}", solve, 2, [[0, 1], iter([2**32])]),
+            (f"{pair} int", pgboard.solve, *TWO, 5),
+            (f"{pair} tuple", pgboard.solve_csr, *CSR, (1, 2, 3)),
+            (f"winners: {listed}", claim, 5, [0, 1]),
+            (f"choices: {listed}", claim, [0, 1], 5),
+            (f"choices[0] {whole} float", claim, [0, 1], [0.5, 1]),
+            (f"winners[1]: {2**40} {far}", claim, iter([0, 2**40]), [0, 1]),
             # (in a list no number is none)
-            (ValueError(f"choices[1]: {pgboard.NO_CHOICE} is out of range"), [0, 1], [None, pgboard.NO_CHOICE]),
+            (f"choices[1]: {pgboard.NO_CHOICE} {far}", claim, [0, 1], [None, pgboard.NO_CHOICE]),
+            (f"steps: -1 {far}", pgboard.solve, *TWO, None, -1),
+            (f"steps {whole} float", pgboard.solve, *TWO, None, 1.5),
         ):
-            self.raises(error, pgboard.verify, *TWO, winners, choices)
-        self.raises(ValueError("steps: -1 is out of range"), pgboard.solve, *TWO, steps=-1)
-        for steps in (1.5, "3"):
-            self.raises(TypeError(f"steps {whole} {type(steps).__name__}"), pgboard.solve, *TWO, steps=steps)
+            self.raises((ValueError if said.endswith(far) else TypeError)(said), call, *given)
 
 
 class Buffers(Tests):
@@ -219,35 +206,23 @@ class Buffers(Tests):
                 self.assertEqual(pgboard.solve_csr(*map(kind, CSR), known=known), SOLVED)
                 pgboard.verify_csr(*CSR, *map(kind, SOLVED))
 
-    def test_takes_large_numbers_in_small_and_large_games(self):
-        for size in (3, 200):
-            game = csr_of([1] * size, [2**31 - 1] * size, [[size - 1]] * size)
-            found = pgboard.solve_csr(*(array("q", it) for it in game))
-            self.assertEqual(found, (array("B", [1] * size), array("I", [size - 1] * size)))
-
-    def held(self, numbers):
-        """A list and a tuple, and the arrays that hold numbers and are not those that C takes."""
-        yield from (numbers, tuple(numbers))
-        for letter, least in zip("bhiq", (2**7, 2**15, 2**31, 2**63)):
-            if -least <= min(numbers) <= max(numbers) < least:
-                yield array(letter, numbers)
-
     def test_refuses_numbers_out_of_range(self):
-        for place, name in enumerate(NAMES):
-            for value in (-1, -(2**31), 256 if place == 0 else 2**32, 2**40, 2**64):
-                error = ValueError(f"{name}[1]: {value} is out of range")
-                for held in self.held([0, value]):
-                    self.raises(error, pgboard.solve_csr, *with_one(CSR, place, held))
-        for call in (pgboard.Board.from_csr, lambda *game: pgboard.verify_csr(*game, *SOLVED)):
-            self.raises(error, call, *with_one(CSR, 3, held))
+        """In lists, in tuples, and in the arrays that hold such numbers."""
         board = pgboard.Board.from_csr(*CSR)
-        for value in (-1, -(2**31), 2**32, 2**40):
-            winners, choices = (ValueError(f"{it}[1]: {value} is out of range") for it in ("winners", "choices"))
-            for held in self.held([0, value]):
-                self.raises(winners, pgboard.solve_csr, *CSR, known=(held, [0, 1]))
-                self.raises(winners, pgboard.verify_csr, *CSR, held, [0, 1])
-                self.raises(choices, pgboard.verify_csr, *CSR, [0, 1], held)
-                self.raises(choices, board.post_arrays, 1, [0, 1], held)
+        solve = lambda at: lambda it: pgboard.solve_csr(*with_one(CSR, at, it))
+        calls = {name: solve(at) for at, name in enumerate(NAMES)}
+        calls["winners"] = lambda it: pgboard.solve_csr(*CSR, known=(it, [0, 1]))
+        calls["choices"] = lambda it: board.post_arrays(1, [0, 1], it)
+        for (name, call), value in itertools.product(calls.items(), (-1, -(2**31), 256, 2**32, 2**40, 2**64)):
+            least = dict(b=2**7, h=2**15, i=2**31, q=2**63)
+            letters = [it for it in least if -least[it] <= value < least[it]]
+            if value != 256 or name in ("owners", "winners"):
+                error = ValueError(f"{name}[1]: {value} is out of range")
+                for kind in (list, tuple, *(functools.partial(array, it) for it in letters)):
+                    self.raises(error, call, kind([0, value]))
+        error = ValueError("indices[1]: -1 is out of range")
+        for call, *more in ((pgboard.Board.from_csr,), (pgboard.verify_csr, *SOLVED)):
+            self.raises(error, call, *CSR[:3], [0, -1], *more)
 
     def test_refuses_what_is_no_buffer_of_integers(self):
         needed = "a contiguous buffer of integers in one dimension is needed, not"
@@ -305,34 +280,36 @@ class Buffers(Tests):
 
 
 class Faults(Tests):
-    def test_are_value_errors_with_one_text(self):
-        self.assertEqual(pgboard.Leaves(0, 1).args, (0, 1))
-        for kind, base in (
-            (pgboard.Fault, ValueError),
-            (pgboard.OutOfMemory, MemoryError),
-            (pgboard.TimedOut, TimeoutError),
-            (pgboard.ClaimCycle, pgboard.BadCycle),
-        ):
-            self.assertTrue(issubclass(kind, base))
-
-    def test_survive_pickling(self):
-        faults = [pgboard.Leaves(3, 4), pgboard.OutOfMemory(), pgboard.MissingAttribute(1, "x", "owner")]
-        for it in [*faults, pgboard.TimedOut(), pgboard.BadShape(1)]:
-            again = pickle.loads(pickle.dumps(it))
-            self.assertEqual((type(again), str(again), vars(again)), (type(it), str(it), vars(it)))
-
-    def test_texts_name_places_and_vertices(self):
+    def test_texts_name_places_and_vertices_and_survive_pickling(self):
         fit = "do not fit the owners: there is one owner, one priority and one row of successors for each"
         lost = "vertex 1 is known for player 1, and player 0 attracts it to what is known for him"
-        texts = {
-            pgboard.BadLengths(3): f"the successors {fit} vertex",
-            pgboard.BadResults(4): "the winners have not one entry for each vertex",
-            pgboard.UnknownSuccessor(7, 9): "vertex 7: the successor 9 is no vertex",
-            pgboard.KnownLost(1): lost,
-            pgboard.NoToken(7): "byte 7: no token",
-            pgboard.MissingAttribute(1, "x", "owner"): "node 'x' has no attribute 'owner'",
-        }
-        self.assertEqual([str(it) for it in texts], list(texts.values()))
+        shape = "row 1: there is none, or its vertex is not in the game or not greater than the one before"
+        shape += ", or has no choice that is a successor where the player owns it"
+        bad = "its priority is the other player's, and the greatest"
+        outside = "which is neither in the claim nor settled for its player"
+        for it, base, said in (
+            (pgboard.BadLengths(3), ValueError, f"the successors {fit} vertex"),
+            (pgboard.UnknownSuccessor(7, 9), pgboard.Refused, "vertex 7: the successor 9 is no vertex"),
+            (pgboard.NoToken(7), pgboard.Refused, "byte 7: no token"),
+            (pgboard.MissingAttribute(1, "x", "owner"), ValueError, "node 'x' has no attribute 'owner'"),
+            (pgboard.OutOfMemory(), MemoryError, "memory was refused"),
+            (pgboard.TimedOut(), TimeoutError, str(pgboard.TimedOut())),
+            (pgboard.BadResults(4), pgboard.Refused, "the winners have not one entry for each vertex"),
+            (pgboard.KnownLost(1), pgboard.NotKnown, lost),
+            (pgboard.ClaimCycle(3), pgboard.BadCycle, f"vertex 3: {bad} on a closed walk in the claim"),
+            (pgboard.BadPlayer(2), pgboard.RefusedClaim, str(pgboard.BadPlayer(2))),
+            (pgboard.BadClaimLengths(2, 1), pgboard.RefusedClaim, "there are 2 vertices and 1 choices"),
+            (pgboard.BadShape(1), pgboard.RefusedClaim, f"{shape}, or a choice where he does not"),
+            (pgboard.ClaimCycle(3), pgboard.RefusedClaim, str(pgboard.ClaimCycle(3))),
+            (pgboard.Lost(2), pgboard.RefusedClaim, "vertex 2 is settled for the other player"),
+            (pgboard.Stale(), pgboard.RefusedClaim, "each vertex of the claim is settled for its player"),
+            (pgboard.Open(2, 3), pgboard.RefusedClaim, f"vertex 2: a kept edge leads to 3, {outside}"),
+        ):
+            again = pickle.loads(pickle.dumps(it))
+            self.assertEqual(str(it), said)
+            self.assertTrue(isinstance(it, base) and isinstance(it, pgboard.Fault))
+            self.assertEqual((type(again), str(again), vars(again)), (type(it), str(it), vars(it)))
+        self.assertEqual(pgboard.Leaves(0, 1).args, (0, 1))
 
 
 class Texts(Tests):
@@ -352,16 +329,14 @@ class Texts(Tests):
             self.assertEqual(pgboard.tidy_text(tidy), tidy)
             pgboard.verify_text(game, pgboard.solve_text(game))
 
-    def test_a_str_that_utf_8_cannot_encode_is_a_value_error(self):
-        """Also where Python has made it of bytes that are no UTF-8, as names of files; bytes have any."""
-        for text, call in zip(('0 0 0 0 "\ud800";', "0 0 0 0\udcff;", "\udcff"), self.CALLS):
-            with self.assertRaises(UnicodeEncodeError):
-                call(text)
-
-    def test_takes_bytes_or_str_alone(self):
+    def test_takes_bytes_or_str_that_utf_8_can_encode(self):
+        """Python may have made a str of bytes that are no UTF-8, as of names of files; bytes have any."""
         others = None, 5, [48], bytearray(b"0 0 0 0;"), memoryview(b"0 0 0 0;")
         for other, call in zip(others, itertools.cycle(self.CALLS)):
             self.raises(TypeError(f"a text is bytes or str, not {type(other).__name__}"), call, other)
+        for text, call in zip(('0 0 0 0 "\ud800";', "0 0 0 0\udcff;", "\udcff"), self.CALLS):
+            with self.assertRaises(UnicodeEncodeError):
+                call(text)
 
     def test_solves_a_file(self):
         with tempfile.TemporaryDirectory() as folder:
@@ -388,40 +363,31 @@ class Texts(Tests):
             out, err = python(program % call, stdin=subprocess.PIPE).communicate(GAME, timeout=60)
             self.assertTrue(out.startswith(said) and out.endswith("  False\n"), out + err)
 
-    def test_refuses_texts(self):
-        for fault, game, solution in (
-            (pgboard.NoToken(6), "0 0 0 ?;", ""),
-            (pgboard.SpecifiedTwice(7), "7 0 0 7; 7 1 1 7;", ""),
-            (pgboard.NoToken(4), GAME, "3 0 ?"),
-            (pgboard.NotWritten(9), GAME, "3 0 3;"),
-        ):
-            self.raises(fault, pgboard.verify_text, game, solution)
-
-    def says(self, said, call, *texts):
-        with self.subTest(said), self.assertRaises(pgboard.Refused) as found:
+    def says(self, said, fault, call, *texts):
+        with self.subTest(said), self.assertRaises(fault) as found:
             call(*texts)
         self.assertEqual(str(found.exception), said)
 
     def test_a_fault_of_a_text_has_its_line_and_column(self):
-        for text, said in (
-            ('0 0 0 0 "\u03a9";\n1 ?', "2:3: byte 16: no token"),
-            ('0 0 0 0 "\u03a9"; 1 ?', "1:16: byte 16: no token"),
-            ('0 0 0 0 "; 0 1";\n 0 1 1 0;', "2:2: vertex 0 is specified twice"),
-            ('7 8 0 7,8 "8";', "1:9: vertex 7: the successor 8 is no vertex"),
-            ("", "1:1: byte 0: not expected"),
+        for text, fault, said in (
+            ('0 0 0 0 "\u03a9";\n1 ?', pgboard.NoToken, "2:3: byte 16: no token"),
+            ('0 0 0 0 "\u03a9"; 1 ?', pgboard.NoToken, "1:16: byte 16: no token"),
+            ('0 0 0 0 "; 0 1";\n 0 1 1 0;', pgboard.SpecifiedTwice, "2:2: vertex 0 is specified twice"),
+            ('7 8 0 7,8 "8";', pgboard.UnknownSuccessor, "1:9: vertex 7: the successor 8 is no vertex"),
+            ("", pgboard.BadText, "1:1: byte 0: not expected"),
         ):
             for call in (pgboard.solve_text, pgboard.tidy_text, pgboard.Board.from_text):
-                self.says(f"game:{said}", call, text)
+                self.says(f"game:{said}", fault, call, text)
             with tempfile.NamedTemporaryFile() as file:
                 pathlib.Path(file.name).write_bytes(text.encode())
-                self.says(f"{file.name}:{said}", pgboard.solve_file, file.name)
-        for text, said in (
-            ("3 0 3;\n9 ?", "solution:2:3: byte 9: no token"),
-            ("3 0 3;\n9 1 9;\n 3 0 3;", "solution:3:2: vertex 3 is written twice"),
-            ("3 0 3;\n 9 1 5;", "solution:2:6: vertex 5 is not in the game"),
-            ("3 0 3;", "vertex 9 is not written"),
+                self.says(f"{file.name}:{said}", fault, pgboard.solve_file, file.name)
+        for text, fault, said in (
+            ("3 0 3;\n9 ?", pgboard.NoToken, "solution:2:3: byte 9: no token"),
+            ("3 0 3;\n9 1 9;\n 3 0 3;", pgboard.WrittenTwice, "solution:3:2: vertex 3 is written twice"),
+            ("3 0 3;\n 9 1 5;", pgboard.Stranger, "solution:2:6: vertex 5 is not in the game"),
+            ("3 0 3;", pgboard.NotWritten, "vertex 9 is not written"),
         ):
-            self.says(said, pgboard.verify_text, GAME, text)
+            self.says(said, fault, pgboard.verify_text, GAME, text)
 
 
 class Package(Tests):
@@ -438,10 +404,6 @@ class Package(Tests):
                 loaded = {"loaded": ctypes.CDLL(f"{folder}/built.so")}
                 with mock.patch.dict(pgboard.library.LIBRARY.__dict__, loaded):
                     self.assertEqual(pgboard.build(), said)
-
-    def test_exports_each_name(self):
-        self.assertEqual([it for it in pgboard.__all__ if not hasattr(pgboard, it)], [])
-        self.assertTrue(os.path.exists(os.path.join(os.path.dirname(pgboard.__file__), "py.typed")))
 
     @unittest.skipUnless(os.path.exists(os.path.join(HERE, "pyproject.toml")), "pyproject.toml is not here")
     def test_the_least_python_can_read_it(self):
@@ -471,7 +433,9 @@ class Package(Tests):
 
     @unittest.skipUnless(shutil.which("mypy"), "mypy is not installed")
     def test_types(self):
-        status, said = self.mypy(os.path.dirname(pgboard.__file__))
+        folder = os.path.dirname(pgboard.__file__)
+        self.assertTrue(os.path.exists(f"{folder}/py.typed"))
+        status, said = self.mypy(folder)
         self.assertEqual(status, 0, said)
         head = (
             "from array import array\nimport pgboard\n"
@@ -481,18 +445,16 @@ class Package(Tests):
         if numpy and "site-packages" not in numpy.__file__:
             taken.append("numpy.zeros(3)")
             head += "import numpy\n"
-        refused = ["[0.5, 1]", "3", "'text'", "None", "object()", "range(3)"]
-        call = "pgboard.solve_csr(b'', {0}, {0}, b'', known=(b'', {0}))"
-        status, said = self.mypy("-c", head + "\n".join(map(call.format, taken)))
-        self.assertEqual(status, 0, said)
-        status, said = self.mypy("-c", head + "\n".join(map(call.format, refused)))
-        lines = set(map(int, re.findall(r"(?m)^<string>:(\d+): error: (?:Argument|List item)", said)))
-        first = head.count("\n") + 1
-        self.assertEqual(lines, set(range(first, first + len(refused))), said)
-        there, absent = pgboard.__all__, ["nothing", "__wrapped__", "text_bytes", "ctypes"]
-        status, said = self.mypy("-c", head + "\n".join(f"pgboard.{it}" for it in [*there, *absent]))
-        lines = list(map(int, re.findall(r"(?m)^<string>:(\d+): error: .*attr", said)))
-        self.assertEqual([*lines], list(range(first + len(there), first + len(there) + len(absent))), said)
+        call, first = "pgboard.solve_csr(b'', {0}, {0}, b'', known=(b'', {0}))".format, 1 + head.count("\n")
+        refused = [*map(call, ["[0.5, 1]", "3", "'text'", "None", "object()", "range(3)"])]
+        absent = [f"pgboard.{it}" for it in ("nothing", "__wrapped__", "text_bytes", "ctypes")]
+        # lines that mypy takes, and those that it refuses, each with the kind of error
+        there = [*map(call, taken), *(f"pgboard.{it}" for it in pgboard.__all__)]
+        rows = (there, [], ""), ([], refused, "(?:Argument|List item)"), ([], absent, ".*attr")
+        for good, bad, kind in rows:
+            said = self.mypy("-c", head + "\n".join([*good, *bad]))[1]
+            lines = sorted({*map(int, re.findall(rf"(?m)^<string>:(\d+): error: {kind}", said))})
+            self.assertEqual(lines, [*range(first, first + len(bad))], said)
         types = "pgboard.solve_csr(b'', b'', b'', b'').winners, pgboard.Leaves().at"
         said = self.mypy("-c", f"{head}reveal_type(({types}))")[1]
         self.assertRegex(said, r'Revealed type is "[Tt]uple\[array.array\[builtins.int\], builtins.int\]')
@@ -605,21 +567,17 @@ class Graphs(Tests):
         with self.assertRaisesRegex(pgboard.NoSuccessor, r"^node \('a', 1\) has no successor$") as found:
             pgboard.solve_graph(self.graph)
         self.assertEqual((found.exception.at, found.exception.node), (2, ("a", 1)))
-        again = pickle.loads(pickle.dumps(found.exception))
-        self.assertEqual(str(again), str(found.exception))
+        self.assertEqual(str(pickle.loads(pickle.dumps(found.exception))), str(found.exception))
         data = self.graph.nodes["lose"]
-        for name, fault, wrong, far in (
-            ("priority", pgboard.BadPriority, 2**31, 2**32),
-            ("owner", pgboard.BadOwner, 2, 256),
-        ):
-            for data[name], said, error in (
-                (-1, f"{name}: -1 is out of range", ValueError),
-                (far, f"{name}: {far} is out of range", ValueError),
-                ("1", f"{name} has to be an integer, not str", TypeError),
-                (wrong, f"the {name} is ", fault),
-            ):
-                with self.subTest(said), self.assertRaisesRegex(error, f"^node 'lose': {said}"):
-                    pgboard.solve_graph(self.graph)
+        rows = ("priority", 2**31, 2**32), ("owner", 2, 256)
+        for (name, wrong, far), kind in itertools.product(rows, range(3)):
+            data[name] = given = [far, "1", wrong][kind]
+            error = ValueError, TypeError, (pgboard.BadPriority if name == "priority" else pgboard.BadOwner)
+            said = f": {given} is out of range", " has to be an integer, not str"
+            said = (*(f"{name}{it}" for it in said), f"the {name} is ")[kind]
+            with self.subTest(said), self.assertRaisesRegex(error[kind], f"^node 'lose': {said}"):
+                pgboard.solve_graph(self.graph)
+            data[name] = 1
         self.raises(pgboard.NoVertex(), pgboard.solve_graph, networkx.DiGraph())
 
     def test_what_is_missing_is_named(self):

@@ -1,6 +1,7 @@
 #!/usr/bin/env python3
 """Tests of examples/board and bench/library_calls over the static library."""
 
+import itertools
 import os
 import pathlib
 import random
@@ -21,7 +22,6 @@ import scripts
 
 BOARD = common.ROOT / "examples" / "board"
 SAID = re.compile(r"referee: solver (\d+) \((.*)\): (.*), \d+\.\d s: (.*)")
-NO_CHOICE = 4_294_967_295
 GAME = {3: (2, 0, {3, 9}), 9: (1, 1, {9}), 12: (0, 1, {3})}
 # what the referee says of what a solver printed: the solution, Odd's part of it, and nothing
 ALL = "Even settled 2, of which 2 of 2 claimed; Odd settled 1, of which 1 of 1 claimed"
@@ -98,49 +98,37 @@ class Referee(Boards):
         seconds = lambda text: re.sub(r"\d+\.\d s", "N s", scripts.without_build(text))
         self.assertEqual(seconds(out.decode()), seconds(printed))
 
-    def test_what_another_solver_has_settled_is_lost(self):
+    def test_what_is_said_of_a_solver(self):
+        for said, text in scripts.rows_of("claimed.txt"):
+            with self.subTest(text):
+                settled = sum(map(int, re.findall(r"settled (\d)", said)))
+                self.check([("status 0", said)], len(GAME) - settled, self.printing(scripts.bytes_of(text)))
+        # (what another solver has settled is lost)
         game = {3: (2, 0, {9}), 9: (1, 1, {9}), 12: (0, 0, {12})}
         late = self.after(1, f"cat {self.file('even', '3 0 9; 9 1 9;')}")
         refused = "Even refused: 3 is lost; Odd refused: all of it is settled already"
         wanted = [("status 0", "Odd settled 2, of which 1 of 1 claimed"), ("status 0", refused)]
         self.check(wanted, 1, self.printing("9 1 9;"), late, game=game)
 
-    def test_what_is_said_of_a_solver(self):
-        for said, text in scripts.rows_of("claimed.txt"):
-            with self.subTest(text):
-                settled = sum(map(int, re.findall(r"settled (\d)", said)))
-                self.check([("status 0", said)], len(GAME) - settled, self.printing(scripts.bytes_of(text)))
-
-    def test_a_solver_that_crashes_is_heard_and_what_it_started_is_ended(self):
+    def test_how_solvers_end(self):
+        """What one printed before is taken, and all that it started in its session is ended."""
         half, pid = self.file("half", "paritysol 12;\n9 1 9;\n3 0"), self.folder / "pid"
-        for end, how in {"exit 3": "status 3", "kill -SEGV $$": "signal 11", "kill -9 $$": "signal 9"}.items():
-            solver = f"sh -c 'sleep 600 >/dev/null & echo $! >{pid}; cat {half}; {end}'"
-            self.check([(how, ODD)], 2, solver, more=LONG)
-            common.wait_until(lambda: not common.is_alive(int(pid.read_text())))
-        self.check([("status 1", NOTHING)], 3, "false")
-
-    def test_a_solver_that_never_ends_is_ended_with_all_that_it_started(self):
-        half, pid, begun = self.file("half", "9 1 9; 3 0"), self.folder / "pid", time.monotonic()
-        solvers = f"sh -c 'sleep 600 & echo $! > {pid}; cat {half}; wait'", "sleep 600"
-        how = "ended after 4.5 s"
-        self.check([(how, ODD), (how, NOTHING)], 2, *solvers, more=["--time", "4.5"])
-        self.assertLess(time.monotonic() - begun, 60)
-        common.wait_until(lambda: not common.is_alive(int(pid.read_text())))
-
-    def test_what_a_solver_starts_in_another_session_does_not_hold_it_up(self):
-        self.file("game.pg", "0 0 0 0;\n")
-        solver = common.load(BOARD / "referee.py").Solver(
-            1, "sh -c 'echo \"0 0 0;\"; setsid sleep 60 2>/dev/null &'"
-        )
-        begun, guard = time.monotonic(), unittest.mock.Mock(path=str(self.folder))
-        self.assertEqual((solver.run(0.5, guard), solver.how_it_ended()), ("0 0 0;\n", "ended after 0.5 s"))
-        self.assertLess(time.monotonic() - begun, 40)
-
-    def test_a_full_board_ends_the_other_solvers(self):
-        begun = time.monotonic()
-        solvers = "sleep 600", self.printing("3 0 3; 9 1 9; 12 0;")
-        self.check([(FULL, NOTHING), ("status 0", ALL)], 0, *solvers, more=LONG)
-        self.assertLess(time.monotonic() - begun, 60)
+        ends = lambda end, to="": f"sh -c 'sleep 600 {to} & echo $! >{pid}; cat {half}; {end}'"
+        late, all_of_it = "ended after 4.5 s", self.printing("3 0 3; 9 1 9; 12 0;")
+        apart = f"sh -c 'cat {half}; setsid sleep 90 2>/dev/null &'"
+        for time_limit, left, solvers in (
+            ("600", 2, {ends("exit 3", ">/dev/null"): ("status 3", ODD)}),
+            ("600", 2, {ends("kill -SEGV $$", ">/dev/null"): ("signal 11", ODD)}),
+            ("600", 3, {"false": ("status 1", NOTHING)}),
+            ("4.5", 2, {ends("wait"): (late, ODD), "sleep 600": (late, NOTHING)}),
+            ("4.5", 2, {apart: (late, ODD)}),
+            ("600", 0, {"sleep 600": (FULL, NOTHING), all_of_it: ("status 0", ALL)}),
+        ):
+            begun = time.monotonic()
+            with self.subTest(solvers):
+                self.check([*solvers.values()], left, *solvers, more=["--time", time_limit])
+                self.assertLess(time.monotonic() - begun, 60)
+                common.wait_until(lambda: not pid.exists() or not common.is_alive(int(pid.read_text())))
 
     def test_a_signal_ends_the_solvers_and_leaves_nothing(self):
         """Even one that the referee can't catch."""
@@ -167,14 +155,14 @@ class Referee(Boards):
                     common.wait_until(lambda: not common.is_alive(pid))
 
     def by_hand(self, lines, *words):
-        begin = f"import sys; sys.path.insert(1, {str(BOARD)!r}); import referee\n"
+        begin = f"import sys, threading, time; sys.path.insert(1, {str(BOARD)!r}); import referee\n"
         return {"script": ["-c", f"{begin}{lines}\nreferee.run('referee', referee.main)"], "more": words}
 
     def test_a_solver_that_is_ended_before_it_starts_is_not_started(self):
         # the second one's command is begun once the board is full
         lines = """start = referee.Solver.run
 def run(self, *given):
-    if self.worker == 2: import time; time.sleep(3)
+    if self.worker == 2: time.sleep(3)
     return start(self, *given)
 referee.Solver.run = run"""
         begun = self.folder / "begun"
@@ -183,8 +171,7 @@ referee.Solver.run = run"""
         self.assertFalse(begun.exists())
 
     def test_one_solver_is_posted_at_a_time(self):
-        lines = """import threading, time
-busy, post = threading.Lock(), referee.Referee.post_all
+        lines = """busy, post = threading.Lock(), referee.Referee.post_all
 def one(*given):
     alone = busy.acquire(blocking=False)
     time.sleep(0.2)
@@ -196,13 +183,10 @@ referee.Referee.post_all = one"""
         self.assertEqual([it[3] for it in said], [ODD, *["Odd refused: all of it is settled already"] * 3])
 
     def test_what_a_solver_says_on_standard_error_is_shown(self):
-        status, out, err = self.run_script(
-            "--solver", "sh -c 'echo out of luck >&2; exit 7'", self.file("game.pg", plain.written_game(GAME))
-        )
-        self.assertEqual((status, err.splitlines()[0]), (0, "out of luck"))
-        self.assertRegex(
-            err.splitlines()[1], r"^referee: solver 1 .*: status 7, \d+\.\d s: nothing is claimed$"
-        )
+        solver = "sh -c 'echo out of luck >&2; exit 7'"
+        _, _, err = self.run_script("--solver", solver, self.file("game.pg", plain.written_game(GAME)))
+        line = r"referee: solver 1 .*: status 7, \d+\.\d s: nothing is claimed"
+        self.assertRegex(err, rf"\Aout of luck\n{line}\n")
 
     def test_a_solver_that_prints_without_end_is_ended(self):
         wanted = "ended, since it printed too much", "output:2:1: vertex 3: written twice"
@@ -268,23 +252,6 @@ def layers(chance, size):
     }
 
 
-def false_claims(chance, game):
-    """Lines for claims.c: a player, and rows that he owns in part, of which he loses at least one."""
-    winners = plain.winners(game)
-    ids = sorted(game)
-    lines = []
-    for player in (0, 1):
-        lost = [it for it in ids if winners[it] != player]
-        for _ in range(4 if lost else 0):
-            rows = {chance.choice(lost), *chance.sample(ids, chance.randint(0, len(ids)))}
-            lines.append(f"{player} {len(rows)}")
-            for it in sorted(rows):
-                _, owner, to = game[it]
-                choice = ids.index(chance.choice(sorted(to))) if owner == player else NO_CHOICE
-                lines.append(f"{ids.index(it)} {choice}")
-    return "\n".join(lines) + "\n"
-
-
 @common.needs("g++")
 class Outside(Boards):
     @classmethod
@@ -296,7 +263,7 @@ class Outside(Boards):
         cls.programs = {" ".join(words): cls.built(*words) for words in builds}
         cls.program = cls.programs["g++ -O2"]
         # the same beside others
-        wrapped = "-Wl,--wrap=pgboard_board_post,--wrap=pgboard_board_finish"
+        wrapped = "-Wl,--wrap=pgboard_board_post"
         claims = cls.folder / "claims.o"
         status, _, err = embed.run(["cc", *embed.FLAGS, "-c", "tests/library/claims.c", "-o", claims])
         assert (status, err) == (0, ""), err
@@ -331,20 +298,16 @@ class Outside(Boards):
             posts, _, refused, settled = map(sum, zip(*ran))
             self.assertTrue(posts > count and settled > count and refused == 0, (name, ran))
 
-    def test_false_stale_and_late_claims(self):
-        """Each solution is right, and no false claim is accepted, or claims.c ends the program."""
-        for how in ("", "stale", "late", "false"):
-            for seed in range(40):
-                with self.subTest(how, seed=seed):
-                    chance = random.Random(seed)
-                    game = self.game(chance, 8, 20, 40)
-                    claims = self.file("claims", false_claims(chance, game))
-                    posts, stale, refused, settled = self.ran(self.beside, game, HOW=how, CLAIMS=str(claims))
-                    self.assertEqual(refused, min(posts, 2) if how == "false" else 0)
-                    if how in ("stale", "late"):
-                        self.assertEqual(stale, posts)
-                    if how in ("late", "false"):
-                        self.assertEqual(settled, len(game) if posts and how == "late" else 0)
+    def test_stale_late_and_refused_claims(self):
+        for how, seed in itertools.product(("stale", "late", "refused"), range(40)):
+            with self.subTest(how, seed=seed):
+                game = self.game(random.Random(seed), 8, 20, 40)
+                posts, stale, refused, settled = self.ran(self.beside, game, HOW=how)
+                by_others = {"stale": settled, "late": len(game) * (posts > 0), "refused": 0}[how]
+                counts = (0, posts) if how == "refused" else (posts, 0)
+                self.assertEqual((stale, refused, settled), (*counts, by_others))
+                # (each thread looks at the board, or ends, after its first claim)
+                self.assertLessEqual(posts, len(game) if how == "stale" else 2)
 
     def test_statuses(self):
         good, bad = common.ROOT / "examples" / "requests.pg", self.file("bad.pg", "0 0 0 7;")

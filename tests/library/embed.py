@@ -1,7 +1,6 @@
 #!/usr/bin/env python3
 """Builds the static library, and looks at what C and Python see of it."""
 
-import collections
 import itertools
 import os
 import pathlib
@@ -13,17 +12,14 @@ import unittest
 sys.path.append(str(pathlib.Path(__file__).resolve().parents[1] / "lib"))
 import build_library
 import common
-import faults
 import pages
-import plain
 
 CRATE = common.ROOT / "crates" / "pgboard_c"
 ARCHIVES = []
-# games on which eight threads post
-THREADED = 100
-# the tests of boards, of those that are finished part by part, and of boards of texts; and their games (board.c has its own)
-BOARDS = [("board", 0), ("advance", 3000), ("board_texts", 500)]
-NO_CHOICE, NO_WINNER = 2**32 - 1, 255
+# the tests of the calls, of large games, of boards, of those that are finished part by part, and of boards of
+# texts; and their games (those without have their own)
+PROGRAMS = {"test": 0, "large": 0, "board": 0, "advance": 3000, "board_texts": 500}
+BOARDS = "board", "advance", "board_texts"
 WARNINGS = ["-Wall", "-Wextra", "-Werror", "-pedantic", "-Iinclude"]
 STRICT = {"c": ["-Wshadow", "-Wconversion"]}
 STRICT["c++"] = [*STRICT["c"], "-Wzero-as-null-pointer-constant"]
@@ -31,72 +27,27 @@ FLAGS = ["-std=c11", *WARNINGS, "-O1"]
 REFUSING = ["-Wl,--wrap=malloc,--wrap=realloc"]
 SANITIZERS = ["-fsanitize=address,undefined", "-fno-sanitize-recover=all", "-g"]
 HEADER = common.text_of("include/pgboard.h")
+# what is solved, posted, given up and finished of a thousand random games
+CALLS = """import random, pgboard
+
+def said(call, *given):
+    try:
+        return call(*given)
+    except pgboard.Fault as fault:
+        return repr(fault)
+
+for chance in map(random.Random, range(1000)):
+    n = chance.randint(1, 40)
+    some = lambda most: [chance.randrange(most) for _ in range(n)]
+    game = some(2), some(9), [chance.choices(range(n), k=chance.randint(1, 3)) for _ in range(n)]
+    board, solved, player = pgboard.Board(*game), pgboard.solve(*game), chance.randrange(2)
+    won = [v for v in range(n) if solved[0][v] == player and chance.random() < 0.9]
+    claim = {v: solved[1][v] for v in won}
+    print(solved, said(pgboard.solve, *game, None, chance.randrange(30)), said(board.post, player, claim, 7))
+    board.finish()
+    print(board.entries[:], board.solution_text())
+"""
 DECLARED = re.findall(r"(?ms)^(?:uint32_t|uint64_t|size_t|void) (\w+)\([^;]*;", HEADER)
-
-
-def replayed(text):
-    """Replays what eight threads posted on a plain board: each answer, each entry, and the states.
-
-    Yields the answers.
-    """
-    lines = [line.split() for line in text.splitlines()]
-    of = lambda word: [row[1:] for row in lines if row[0] == word]
-    game = {v: (p, o, set(row)) for v, (p, o, *row) in enumerate(map(int, row) for row in of("vertex"))}
-    entries, states = list(map(entry_of, of("entry"))), [
-        (int(row[0]), choice_of(row[1])) for row in of("state")
-    ]
-    board = plain.Board(game)
-    for row in of("post"):
-        yield answer_of(board, row, entries)
-    posted = len(board.journal)
-    assert_state(board, states[: len(game)])
-    assert ["settled", str(len(board.state()))] in lines
-    # (an entry that is no post's comes after all posts)
-    before = lines[: lines.index(["finished"])]
-    assert sum(row[0] == "entry" for row in before) == posted, "entries"
-    for entry in entries[posted:]:
-        worker, player, claimed, rows = entry
-        assert worker == 0 and board.fault(player, rows[:claimed]) is None, entry
-        assert board.entry_fault(player, rows[:claimed], entry) is None, entry
-        board.add(entry)
-    assert_state(board, states[len(game) :])
-    assert plain.verdict(game, board.state()) == "ok\n"
-
-
-def assert_state(board, rows):
-    state = board.state()
-    assert [state.get(v, (NO_WINNER, None)) for v in sorted(board.game)] == rows
-
-
-def answer_of(board, row, entries):
-    """The name of the answer to a post, which has to be the plain board's; that takes over the entry."""
-    first, second = [k for k, word in enumerate(row) if word == "|"]
-    answer, worker, player, *said = map(int, row[:first])
-    vertices, choices = list(map(int, row[first + 1 : second])), list(map(choice_of, row[second + 1 :]))
-    rows, wrong = list(zip(vertices, choices)), None
-    if player > 1:
-        wrong = "player", player, 0
-    elif len(vertices) != len(choices):
-        wrong = "lengths", len(vertices), len(choices)
-    reason, *places = wrong or board.fault(player, rows) or ("ok", 0, 0)
-    posted = [0, 0, 0]
-    if reason == "ok":
-        entry = entries[len(board.journal)]
-        assert entry[0] == worker and board.entry_fault(player, rows, entry) is None, (row, entry)
-        posted = [len(board.journal), entry[2], len(entry[3])]
-        board.add(entry)
-    name = next(it.name for it in faults.ANSWERS if it.number == answer).removeprefix("POST_")
-    assert (name, said) == (reason.upper(), [*places, *posted]), (row, reason, places, posted)
-    return name
-
-
-def choice_of(word):
-    return None if int(word) == NO_CHOICE else int(word)
-
-
-def entry_of(row):
-    places = row[4:]
-    return *map(int, row[:3]), list(zip(map(int, places[::2]), map(choice_of, places[1::2])))
 
 
 def pythons():
@@ -142,20 +93,6 @@ def without_build(commands):
     return commands.replace("./pgboard --unproved --library\n", "", 1)
 
 
-class PlainBoard(unittest.TestCase):
-    def test_wrong_entries_and_claims_are_named(self):
-        board = plain.Board({3: (2, 0, {3, 9}), 9: (1, 1, {9}), 12: (0, 1, {3})})
-        for rows, entry, fault in (
-            ([(3, 3)], (1, 0, 1, [(3, 3), (12, None)]), None),
-            ([(3, 3)], (1, 0, 1, [(3, 3)]), "it is not the attractor"),
-            ([(3, 3)], (1, 0, 1, [(3, 3), (12, 3)]), "its row 1 does not lead to what comes before"),
-        ):
-            self.assertEqual(board.entry_fault(0, rows, entry), fault)
-        claims = ([(3, 3), (12, None)], None), ([(3, 9)], ("open", 3, 9)), ([(9, None)], ("cycle", 9, 0))
-        for rows, fault in claims:
-            self.assertEqual(board.fault(0, rows), fault)
-
-
 @common.needs("rt", "cc")
 class Embed(unittest.TestCase):
     @classmethod
@@ -171,13 +108,6 @@ class Embed(unittest.TestCase):
         crate = "".join(path.read_text() for path in (CRATE / "src").glob("*.rt"))
         self.assertEqual(sorted(DECLARED), sorted(re.findall(r'pub extern "C" fn (\w+)', crate)))
         self.assertEqual(len(DECLARED), 28)
-
-    def test_the_versions_are_the_programs(self):
-        found = dict(re.findall(r"(?m)^#define PGBOARD_VERSION_(\w+) (\d+)$", HEADER))
-        printed = run([common.PROGRAM, "--version"])[1].split()[1]
-        self.assertEqual(".".join(found[it] for it in ("MAJOR", "MINOR", "PATCH")), printed)
-        self.assertIn(f'__version__ = "{printed}"', common.text_of("bindings/python/pgboard/version.py"))
-        self.assertIn(f'\nversion = "{printed}"\n', common.text_of("bindings/rust/Cargo.toml"))
 
     def test_the_header_in_c_and_cpp(self):
         source = self.folder / "header.c"
@@ -206,20 +136,12 @@ class Embed(unittest.TestCase):
             self.assertEqual(status, 1)
             self.assertIn(word, err)
 
-    def test_each_answer_in_c(self):
-        for name, flags in (("plain", []), ("with sanitizers", SANITIZERS)):
-            with self.subTest(name):
-                self.passes(self.built_board(name, flags, "test"))
-
-    def test_large_games_in_c(self):
-        self.passes(self.built_board("plain", [], "large"))
-
-    def test_each_answer_of_a_board_one_that_is_finished_part_by_part_and_one_of_a_text(self):
-        for (name, flags, part), (source, games) in itertools.product(
-            (("plain", [], 1), ("with sanitizers", SANITIZERS, 10)), BOARDS
-        ):
-            with self.subTest(name, source=source):
-                self.passes(self.built_board(name, flags, source), str(games // part))
+    def test_each_program_in_c(self):
+        for source, games in PROGRAMS.items():
+            with self.subTest(source):
+                self.passes(self.built_program("plain", [], source), str(games))
+                if source != "large":
+                    self.passes(self.built_program("with sanitizers", SANITIZERS, source), str(games // 10))
 
     @unittest.skipIf(common.PROVED == common.ROOT, "no proved library beside the one without proofs")
     def test_the_library_without_proofs(self):
@@ -229,38 +151,29 @@ class Embed(unittest.TestCase):
         named = run(["nm", "--dynamic", "--defined-only", "--format=posix", shared])[1]
         self.assertEqual(set(re.findall(r"(?m)^(pgboard_\w+)", named)), {*DECLARED, "pgboard_unproved"})
         self.assertRegex(shared.read_bytes(), rb"\0unproved, commit [0-9a-f]{40}(-dirty)?\0")
-        for source, games in (("test", 0), *BOARDS):
+        for source in ("test", *BOARDS):
             with self.subTest(source):
-                self.passes(self.built_board("without proofs", [], source, [archive]), str(games))
+                program = self.built_program("without proofs", [], source, [archive])
+                self.passes(program, str(PROGRAMS[source]))
+        env = {**os.environ, "PYTHONPATH": "bindings/python"}
+        both = (env | {"PGBOARD_LIBRARY": str(it)} for it in (build_shared(self.folder), shared))
+        words = [sys.executable, "-B", "-c", CALLS]
+        first, second = (common.run(words, cwd=common.ROOT, env=it) for it in both)
+        # (a difference of long texts takes very long to be shown)
+        self.assertTrue(first == second, "the libraries answer differently")
+        self.assertEqual((first[0], first[1].count(b"paritysol")), (0, 1000))
 
     @common.needs("valgrind")
     def test_a_board_under_valgrind(self):
         leaks = ["--leak-check=full", "--errors-for-leak-kinds=all"]
-        for source, games in BOARDS:
+        for source in BOARDS:
             with self.subTest(source):
-                program = self.built_board("for valgrind", ["-g"], source)
+                program = self.built_program("for valgrind", ["-g"], source)
                 words = ["valgrind", "-q", "--error-exitcode=9", *leaks, program]
-                status, out, err = run([*words, str(games // 100)])
+                status, out, err = run([*words, str(PROGRAMS[source] // 100)])
                 self.assertEqual(status, 0, out + err)
 
-    def test_threads_that_share_a_board(self):
-        answers = collections.Counter()
-        for name, flags in (
-            ("plain", []),
-            ("with sanitizers", SANITIZERS),
-            ("with the thread sanitizer", ["-fsanitize=thread", "-g"]),
-        ):
-            program = self.built_board(name, flags)
-            for seed in range(THREADED if name == "plain" else THREADED // 10):
-                status, out, err = run([program, "threads", str(seed)])
-                self.assertEqual(status, 0, err)
-                answers.update(replayed(out))
-        # each kind of answer came
-        self.assertEqual(
-            answers.keys(), {"PLAYER", "LENGTHS", "SHAPE", "CYCLE", "LOST", "STALE", "OPEN", "OK"}
-        )
-
-    def built_board(self, name, flags, source="board", archives=ARCHIVES):
+    def built_program(self, name, flags, source, archives=ARCHIVES):
         program = self.folder / f"{source} {name}"
         words = [*FLAGS, *flags, *REFUSING, f"tests/library/embed/{source}.c", *archives]
         self.built([*words, "-o", program, "-lpthread"])
@@ -284,11 +197,6 @@ class Embed(unittest.TestCase):
         found = re.findall(calls, text)
         self.assertGreater(len(found), 40)
         self.assertEqual([name for said, kind, name in found if not said and kind != "void"], ["size", "journal"])
-        source = self.folder / "dropped.cpp"
-        source.write_text('#include "pgboard.hpp"\nvoid f(pgboard::board &board) {\nboard.try_finish(); board.state(); }\n')
-        for compiler in common.installed("g++", "clang++"):
-            _, _, err = run([compiler, "-std=c++17", *WARNINGS, "-Wno-error", "-fsyntax-only", source])
-            self.assertEqual(len(re.findall(r"dropped\.cpp:3:.* warning: .*\[-Wunused", err)), 2, compiler)
 
     def passes(self, test, *words):
         status, out, err = run([test, *words])

@@ -97,9 +97,12 @@ class Help(unittest.TestCase):
         run = lambda *words: common.run([self.script, *words])
         whole, commands = run("--help"), dict(offers(self.script))[""] - {"help"}
         self.assertEqual((whole, whole[1][: len(common.program("--help")[1])]), (run("help"), common.program("--help")[1]))
+        _, *parts = re.split(r"(?m)^= (\w+)\n", common.text_of("packaging/help.txt"))
+        added = dict(zip(parts[::2], parts[1::2]))
         for name in commands:
             said = run("help", name)
             self.assertEqual((said, said[0]), (run(name, "--help"), 0), name)
+            self.assertTrue(said[1].decode().endswith(added.get(name, "")), name)
         self.assertEqual((len(commands), run("--strict", "--help")), (12, common.program("--help")))
 
     def test_zsh_reads_its_file_for_this_command(self):

@@ -386,12 +386,13 @@ class Packaged(unittest.TestCase):
         (self.folder / "game.gz").write_bytes(gzip.compress(GAME))
         tools = self.folder / "tools"
         tools.mkdir()
-        for name in "cat grep head od sed setpriv sh tail tr".split():
+        for name in "cat sed setpriv sh".split():
             (tools / name).symlink_to(shutil.which(name))
         # (other tests compare the folder)
         env = {"PYTHONDONTWRITEBYTECODE": "1"}
         run = lambda path, *words: common.run([self.command, *words], cwd=self.folder, env={**env, "PATH": path})
-        read = b"pgboard: game.gz is packed: it is read without a proof, and the answer has one\n"
+        packed = b"this is a file that gzip has packed: Python reads the file without a proof"
+        read = b"pgboard: game.gz: " + packed + b", and the answer has one\n"
         both = "/usr/bin:/bin"
         self.assertEqual(run(both, "modelcheck", model, "<ask_1> true")[:2], (0, b"true\n"))
         self.assertEqual(run(both, "solve", "game.gz"), (0, SOLUTION, read))
@@ -399,7 +400,7 @@ class Packaged(unittest.TestCase):
         lacks = b"needs Python 3.8 or later, and no python3 is on the PATH\n"
         self.assertEqual(run(str(tools), "winner", "game.gz"), (127, b"", b"pgboard: this " + lacks))
         status, out, err = run(str(tools), "solve", "game.gz")
-        self.assertEqual((status, out, err.partition(b"\n")[0] + b"\n"), (3, b"", b"pgboard: game.gz is packed: to read it " + lacks))
+        self.assertEqual((status, out, b"HOA or comments, this " + lacks in err), (3, b"", True), err)
         self.assertEqual(run(str(tools), "solve", common.ROOT / "examples/both_win.pg"), (0, SOLUTION, b""))
         for path in (both, str(tools)):
             status, out, err = run(path, "--help")
@@ -546,8 +547,9 @@ class Packaged(unittest.TestCase):
         done(self.folder / "venv/bin/pip", "install", "--no-index", "--disable-pip-version-check", self.wheel)
         env = {name: value for name, value in os.environ.items() if not name.startswith("PGBOARD")}
         self.judge_python(self.folder / "venv/bin/python", env, r".*/pgboard/libpgboard\.so")
-        solve = [self.folder / "venv/bin/pgboard", "solve", common.ROOT / "examples/both_win.pg"]
-        self.assertEqual(done(*solve, env=env), SOLUTION.decode())
+        command, game = self.folder / "venv/bin/pgboard", common.ROOT / "examples/both_win.pg"
+        self.assertEqual(done(command, "solve", game, env=env), SOLUTION.decode())
+        self.assertEqual(done(command, "tidy", game, env=env), GAME.decode())
 
     def test_a_wheel_of_the_sources_takes_the_systems_library(self):
         (sources,) = self.dist.glob(f"pgboard-{self.version}.tar.gz")

@@ -266,9 +266,17 @@ class HelpAgrees(unittest.TestCase):
 
     def test_the_version(self):
         ((printed, kit),) = re.findall(r"^pgboard (\S+)\nkit: (.*)\n", help_of("--version"))
-        self.assertEqual([printed], re.findall(r"(?m)^## ([0-9][0-9.]*)", common.text_of("CHANGELOG.md"))[:1])
-        self.assertEqual([printed], re.findall(r'"pgboard ([0-9.]+)"', common.text_of(MAN)))
-        self.assertEqual([printed], re.findall(r"(?m)^version: (.*)$", common.text_of("CITATION.cff")))
+        for path, said in (
+            ("CHANGELOG.md", r"^## ([0-9][0-9.]*)"),
+            (MAN, r'"pgboard ([0-9.]+)"'),
+            ("CITATION.cff", r"^version: (.*)$"),
+            ("bindings/python/pgboard/version.py", r'^__version__ = "(.*)"$'),
+            ("bindings/rust/Cargo.toml", r'^version = "(.*)"$'),
+        ):
+            self.assertEqual(re.findall(f"(?m){said}", common.text_of(path))[:1], [printed], path)
+        header = common.text_of("include/pgboard.h")
+        of_header = re.findall(r"(?m)^#define PGBOARD_VERSION_(?:MAJOR|MINOR|PATCH) (\d+)$", header)
+        self.assertEqual(".".join(of_header), printed)
         self.assertEqual(kit, common.kit())
         self.assertEqual([kit], re.findall(r"the kit's line `([^`]*)`", common.text_of("docs/INSTALL.md")))
 
@@ -369,15 +377,23 @@ def going_back(game):
     yield "p attracts", active - more, again, *owned(more, taken)
 
 
-class GoingBack(unittest.TestCase):
-    def test_the_table_and_the_picture(self):
-        """They are what the definitions make of the drawn game, and the picture is that of its source."""
-        source = common.text_of("docs/pictures/going_back.dot")
-        picture = list(common.drawn(common.text_of("docs/pictures/going_back.svg")))
-        labels = dict(re.findall(r'(?m)^ +(\w+) \[label="([^"]*)"', source))
+class Pictures(unittest.TestCase):
+    def drawing(self, name):
+        """What is drawn, which is what its source says, its edges, and the source."""
+        source = common.text_of(f"docs/pictures/{name}.dot")
+        picture = list(common.drawn(common.text_of(f"docs/pictures/{name}.svg")))
+        labels = dict(re.findall(r'(?m)^\s*(\w+) \[(?:shape=note, )?label="([^"]*)"', source))
+        chains = (it.split(" -> ") for it in re.findall(r"\b(\w+(?: -> \w+)+)", source))
         self.assertEqual({it: "\\n".join(texts) for kind, it, texts, _ in picture if kind == "node"}, labels)
         pairs = {tuple(it.split("->")) for kind, it, *_ in picture if kind == "edge"}
-        self.assertEqual({*re.findall(r"\b(\w+) -> (\w+);", source)}, pairs)
+        self.assertEqual({pair for chain in chains for pair in zip(chain, chain[1:])}, pairs)
+        return picture, pairs, source
+
+    def test_the_architecture(self):
+        self.assertGreater(len(self.drawing("architecture")[1]), 5)
+
+    def test_going_back_is_drawn_and_told_by_the_definitions(self):
+        picture, pairs, source = self.drawing("going_back")
         edges = {"pairs": pairs, "diamond": {*re.findall(r"(?m)^ +(\w+) .*shape=diamond", source)}}
         page = common.text_of("crates/pg_finders/README.md")
         heads, *table = re.findall(r"(?m)^\| (.*) \|$", page[page.index("| After |") :].partition("\n\n")[0])

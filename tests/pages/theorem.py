@@ -136,17 +136,12 @@ class Architecture(unittest.TestCase):
             with self.subTest(crate):
                 graphlib.TopologicalSorter(imports).prepare()
 
-    def test_the_picture(self):
-        """Each box is a function of the file that it names, and the drawing is that of its source."""
+    def test_each_box_of_the_picture_is_a_function_of_its_file(self):
         source = common.text_of("docs/pictures/architecture.dot")
-        boxes = dict(re.findall(r'(?m)^\s*(\w+) \[(?:shape=note, )?label="([^"]*)"', source))
-        for name, path in (label.split("\\n") for label in boxes.values() if "\\n" in label):
+        boxes = [it.split("\\n") for it in re.findall(r'label="([^"]*)"', source) if "\\n" in it]
+        self.assertGreater(len(boxes), 5)
+        for name, path in boxes:
             self.assertRegex(theorem.read(path), rf"\bfn {name}\b")
-        chains = re.findall(r"(?m)^\s*(\w+(?: -> \w+)+)", source)
-        arrows = {pair for chain in chains for pair in itertools.pairwise(chain.split(" -> "))}
-        drawn = list(common.drawn(common.text_of("docs/pictures/architecture.svg")))
-        self.assertEqual({title: "\\n".join(texts) for kind, title, texts, _ in drawn if kind == "node"}, boxes)
-        self.assertEqual({tuple(title.split("->")) for kind, title, *_ in drawn if kind == "edge"}, arrows)
 
 
 if __name__ == "__main__":

@@ -5,7 +5,6 @@ tests/README.md says what a file of tests/program/cli is. Its text before the fi
 them, and `stderr` one for each run. Texts are ASCII with the escapes of Python's bytes, as \xff.
 """
 
-import concurrent.futures
 import functools
 import os
 import pathlib
@@ -235,17 +234,13 @@ FIRST, LEAST = 1_100_000_000, 1_000_000_000
 LONGEST_GAME, LONGEST_SOLUTION = 210_763_795, 26_214_422
 
 
-def own_loops(count, priority=lambda v: 0):
-    return b"".join(b"%d %d 0 %d;\n" % (v, priority(v), v) for v in range(count))
+def own_loops(count):
+    return b"".join(b"%d 0 0 %d;\n" % (v, v) for v in range(count))
 
 
 def rows_of(numbers, successors):
     row = b",".join(b"%d" % w for w in successors)
     return b"".join(b"%d 0 0 %s;\n" % (v, row) for v in numbers)
-
-
-def wide_vertex(count):
-    return rows_of([0], range(count)) + own_loops(count).partition(b"\n")[2]
 
 
 def chain(count, end=b"1 0 0 1;\n", priority=0):
@@ -258,8 +253,8 @@ def chain(count, end=b"1 0 0 1;\n", priority=0):
 CYCLE = b"".join(b"%d 2 0 %d,%d;\n" % (v, v % 6 + 1, (v + 1) % 6 + 1) for v in range(1, 7))
 
 
-def all_to_even(count, own=False):
-    return b"paritysol %d;\n" % (count - 1) + b"".join(b"%d 0 %d;\n" % (v, v) if own else b"%d 0;\n" % v for v in range(count))
+def all_to_even(count):
+    return b"paritysol %d;\n" % (count - 1) + b"".join(b"%d 0;\n" % v for v in range(count))
 
 
 def long_cycle(count):
@@ -289,45 +284,27 @@ def greatest_game():
     return b"parity %d;\n" % (FIRST + VERTICES - 1) + b"".join(rows)
 
 
-def greatest_solution():
-    """Each vertex of even priority stays, and each other leads to the next, or the last to the first."""
-    nexts = [v if v % 2 == 0 else (v + 1) % VERTICES for v in range(VERTICES)]
-    return b"paritysol %d;\n" % (FIRST + VERTICES - 1) + b"".join(b"%d 0 %d;\n" % (FIRST + v, FIRST + w) for v, w in enumerate(nexts))
-
-
 TOO_MANY_VERTICES, TOO_MANY_EDGES = (plain.refused("game", f"too many {it}") for it in ("vertices", "edges"))
 WINNERS = ["solve", "--winners"]
 # the words, what makes the text, and the answer; in place of its output the greatest identifier of a game that is written
 # as it is read, or what makes a solution
 LIMITS = {
-    "as_many_vertices_as_may_be": (["tidy"], lambda: own_loops(VERTICES), VERTICES - 1),
     "one_vertex_too_many": (["tidy"], lambda: own_loops(VERTICES + 1), TOO_MANY_VERTICES),
-    "as_many_edges_as_may_be": (["tidy"], lambda: rows_of(range(WIDTH), range(WIDTH)), WIDTH - 1),
     "one_edge_too_many": (["tidy"], lambda: rows_of(range(WIDTH), range(WIDTH)) + b"%d 0 0 0;\n" % WIDTH, TOO_MANY_EDGES),
-    "repeated_successors_are_one_edge": (["tidy"], lambda: b"0 0 0 0" + b",0" * (EDGES + 1) + b";", (0, b"parity 0;\n0 0 0 0;\n", b"")),
-    "names_of_300_bytes_and_of_a_megabyte": (
+    "repeated_successors_are_one_edge_and_a_name_has_a_megabyte": (
         ["tidy"],
-        lambda: b"".join(b'%d 0 0 %d "%b";' % (v, v, b"n" * length) for v, length in enumerate((300, 1_000_000))),
-        (0, b"parity 1;\n0 0 0 0;\n1 0 0 1;\n", b""),
+        lambda: b"0 0 0 0" + b",0" * (EDGES + 1) + b' "%b";' % (b"n" * 1_000_000),
+        (0, b"parity 0;\n0 0 0 0;\n", b""),
     ),
-    "a_vertex_with_70000_successors": (["tidy"], lambda: wide_vertex(70_000), 69_999),
     "tidy_the_greatest_game": (["tidy"], lambda: greatest_game().partition(b"\n")[2], FIRST + VERTICES - 1),
-    "a_solution_of_as_many_vertices_as_may_be": ([], lambda: own_loops(VERTICES) + b"%" + all_to_even(VERTICES, own=True), OK),
     "a_cycle_of_as_many_vertices_as_may_be": ([], lambda: long_cycle(VERTICES) + b"%" + all_to_even(VERTICES), OK),
     "a_ladder_of_a_million_vertices": ([], lambda: ladder(LEVELS) + b"%" + all_to_even(3 * LEVELS + 1), OK),
-    "verify_the_greatest_solution": ([], lambda: greatest_game() + b"%" + greatest_solution(), OK),
-    "solve_as_many_vertices_as_may_be": (WINNERS, lambda: own_loops(VERTICES), lambda: all_to_even(VERTICES)),
     # (a search that began again at the first successor each time would take minutes)
     "solve_a_chain_of_all_successors_of_a_vertex": (WINNERS, lambda: chain(VERTICES), lambda: all_to_even(VERTICES)),
     "solve_such_a_chain_by_the_recursion": (
         [*WINNERS, "--bound", "0"],
         lambda: chain(VERTICES, CYCLE, 1),
         lambda: all_to_even(VERTICES),
-    ),
-    "solve_own_loops_of_even_priorities": (
-        ["solve", "--workers", "1", "--bound", "0"],
-        lambda: own_loops(5_000, lambda v: 2 * v),
-        lambda: all_to_even(5_000, own=True),
     ),
 }
 
@@ -352,38 +329,18 @@ class Limits(Answers):
 
 common.load_tests_of_table(Limits, LIMITS, Limits.judge)
 
-# --- each byte ---
+# --- texts ---
 
-NAMED = b'parity 12; start 1;\n12 05 1 7,12 "a name";\n7 2 0 12;\n'
-NAMED_SOLUTION = b"paritysol 12;\n7 1;\n12 1 12;\n"
-
-
-class EveryByte(unittest.TestCase):
-    def test_each_byte_at_several_places_of_a_game(self):
-        places = ((b"", b"0 0 0 0;"), (b"0 12", b"3 0 0;"), (b'0 0 0 0 "a', b'b";'), (b"0 0 0 0;", b""))
-        games = {before + bytes([byte]) + after for before, after in places for byte in range(256)}
-        self.judge({game: plain.tidied(game) for game in games}, "tidy")
-
-    def test_each_byte_in_a_solution(self):
-        game, solutions = b"0 0 0 0;", (b"0%c0 0;" % byte for byte in range(256))
-        self.judge({game + b"%" + it: plain.verified(game, it) for it in solutions})
-
-    def test_the_smallest_game_cut_at_every_length(self):
-        text, fault = b"parity 0;\n0 0 0 0;\n", lambda at: plain.refused("game", f"byte {at}: not expected")
-        answer = lambda length: (0, text, b"") if length > 17 else fault(length if length > 5 else 0)
-        self.judge({text[:length]: answer(length) for length in range(20)}, "tidy")
-
-    def test_texts_cut_at_every_length(self):
-        cuts = lambda text: (text[:length] for length in range(len(text) + 1))
-        self.judge({it: plain.tidied(it) for it in cuts(NAMED)}, "tidy")
-        self.judge({NAMED + b"%" + it: plain.verified(NAMED, it) for it in cuts(NAMED_SOLUTION)})
-
-    def judge(self, answers, *words):
-        with concurrent.futures.ThreadPoolExecutor(4) as pool:
-            found = pool.map(lambda it: common.program(*words, given=it), answers)
-            for (text, wanted), got in zip(answers.items(), found):
-                with self.subTest(text=text):
-                    self.assertEqual(got, wanted)
+class Texts(Answers):
+    def test_each_byte_and_the_smallest_game_cut_at_every_length(self):
+        text, bytes_of = b"parity 0;\n0 0 0 0;\n", (b"0 0 0%c0;" % byte for byte in range(256))
+        fault = lambda at: plain.refused("game", f"byte {at}: not expected")
+        wanted = {text[:length]: fault(length if length > 5 else 0) for length in range(18)}
+        wanted |= {it: (0, text, b"") for it in (text[:18], text)}
+        wanted |= {it: plain.tidied(it) for it in bytes_of}
+        for text, answer in wanted.items():
+            with self.subTest(text):
+                self.check(common.program("tidy", given=text), answer)
 
 
 if __name__ == "__main__":

@@ -254,35 +254,15 @@ class RandomGames(unittest.TestCase):
     def test_a_trace_of_4000_vertices(self):
         self.assertGreater(self.check_trace(small_dominions(4_000), 3).count(b"entry "), 100)
 
-    @common.needs_speed
-    def test_each_of_4095_jobs_is_done(self):
-        """The search of each batch finds a dominion of its player, and the recursion solves the rest."""
-        game, rest = plain.written_game(small_dominions(130_944)).encode(), 130_944 - 4 * 4_092
-        found = [(0, 0), (0, 0), *[(1, 4)] * 4_092, (2, rest)]
-        wanted = [f"job {job} 1 {posted} {settled} 0 0 0 0" for job, (posted, settled) in enumerate(found)]
-        out = common.program("trace", "--workers", "1", given=game)[1].decode()
-        self.assertEqual(re.findall("(?m)^job .*$", out), wanted)
-
-    def test_workers_do_not_share_the_choices_of_a_search(self):
-        """A search of 8,721 choices, of 10,000 that it may try, ends by each number of workers."""
-        game = {v: (1, 0, set(range(9))) for v in range(9)} | {9: (1, 1, {0, 10}), 10: (1, 1, {9})}
-        for workers in (1, 2, 3, 64):
-            with self.subTest(workers=workers):
-                self.assertNotRegex(self.check_trace(game, workers), rb"(?m)^job .* 1 .$")
-
-    def test_a_written_solution_that_is_wrong_is_refused(self):
+    def test_what_the_plain_definitions_refuse(self):
         game = {3: (2, 0, {3, 9}), 9: (1, 1, {9}), 12: (0, 1, {3})}
         text = b"paritysol 12;\n3 0 3;\n9 1 9;\n12 0;\n"
-        self.assertIsNone(plain.written_fault(game, text))
-        wrong = text.replace(b"9 1 9", b"9 0")
-        self.assertEqual(plain.written_fault(game, wrong), "not a solution: bad cycle at 9\n")
-        self.assertIsNotNone(plain.written_fault(game, text.replace(b"12 0;", b"12 0 3;")))
-        chain = {v: (0, 0, {max(v - 1, 0)}) for v in range(7)}
-        self.assertEqual(plain.attracted(chain, {0}, 0), {*chain})
-
-    def test_a_damaged_trace_is_refused(self):
-        game = plain.game_of(b"0 2 0 0,1; 1 1 1 1;")
-        text = common.program("trace", "--workers", "1", given=b"0 2 0 0,1; 1 1 1 1;")[1]
+        wrong = {b"9 1 9": (b"9 0", "not a solution: bad cycle at 9\n")}
+        wrong[b"12 0;"] = b"12 0 3;", plain.NOT_WRITTEN
+        for old, (new, said) in {b"": (b"", None), **wrong}.items():
+            self.assertEqual(plain.written_fault(game, text.replace(old, new)), said)
+        given = b"0 2 0 0,1; 1 1 1 1;"
+        game, text = plain.game_of(given), common.program("trace", "--workers", "1", given=given)[1]
         self.assertIsNone(plain.trace_fault(game, 1, text))
         for found in re.finditer(rb"[0-9]+", text):
             with self.subTest(at=found.start()):

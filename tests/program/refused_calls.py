@@ -170,14 +170,6 @@ class Program(Refusing):
             with self.subTest(workers=workers, game=game):
                 self.assertEqual(self.counted(["solve", "--workers", str(workers)], game)[1][1], workers)
 
-    def test_no_allocation_is_more_than_twice_as_large_as_what_is_read_and_written(self):
-        game = plain.written_game(random_games.small_dominions(20_000)).encode()
-        for command in ("tidy", "solve", "trace"):
-            with self.subTest(command):
-                both = len(game) + len(self.counted([command], game)[0][1])
-                status, out, err = self.counted([command], game, REFUSE_ABOVE=2 * both)[0]
-                self.assertEqual((status, err, bool(out)), (0, b"", True))
-
     def test_a_run_takes_so_many_bytes_for_each_vertex_and_worker(self):
         """Each bound is at most 2 % above what was measured.
 
@@ -241,52 +233,23 @@ class Program(Refusing):
                 self.assertEqual(self.counted(words.split(), REFUSE_ABOVE=1_000_001)[0], whole)
                 self.assertEqual(self.counted(words.split(), REFUSE_ABOVE=1_000_000)[0], NO_MEMORY)
 
-    def test_a_file_takes_a_read_for_each_65536_bytes_and_an_output_one_write(self):
-        """One more read finds the end of the file, which is standard input or has a path."""
-        game = plain.written_game(random_games.small_dominions(40_000)).encode()
-        (self.folder / "many.pg").write_bytes(game)
-        of_files = ["-c", 'exec "$@" <many.pg >written', "", common.PROGRAM]
-        for words in ("tidy", "tidy many.pg", "solve --winners", "trace"):
-            with self.subTest(words):
-                (status, _, err), (_, _, reads, writes, *_) = self.counted(
-                    [*of_files, *words.split()], path="bash"
-                )
-                self.assertEqual((status, err, writes), (0, b"", 1))
-                self.assertLessEqual(reads, len(game) // 65_536 + 2)
-
-    def test_a_read_that_fails_at_each_place_of_a_text_and_at_its_end(self):
-        both = len(ONE_EACH + HOLDS) + 2
-        for words, text, count in [
-            ("", JOINED, len(JOINED) + 1),
-            ("tidy", GAPS, len(GAPS) + 1),
-            ("solve", ONE_EACH, len(ONE_EACH) + 1),
-            ("trace", LAYERS, len(LAYERS) + 1),
-            ("verify game.pg game.sol", b"", both),
-            ("solve --known game.sol game.pg", b"", both),
-        ]:
-            with self.subTest(words):
-                for n, got in self.each("REFUSE_READ", range(1, count + 1), words.split(), text, PIECE=1):
-                    self.assertEqual(got, READ_FAULT, f"read {n}")
-                self.assertEqual(self.counted(words.split(), text, PIECE=1)[0][0], 0)
-
-    def test_a_write_that_fails_at_each_place(self):
+    def test_a_read_or_a_write_that_fails_at_each_place_of_a_text_and_at_its_end(self):
         """Bytes go out one by one up to the failure, and with pieces of 5 the first failure leaves 5."""
-        for words, given in [
-            ("", JOINED),
-            ("tidy", GAPS),
-            ("solve --winners", CONTINENTS),
-            ("trace --workers 1", ONE_EACH),
-            ("--version", b""),
-        ]:
-            with self.subTest(words):
-                out = self.counted(words.split(), given)[0][1]
-                for n, got in self.each(
-                    "REFUSE_WRITE", range(1, len(out) + 1), words.split(), given, PIECE=1
-                ):
-                    self.assertEqual(got, (4, out[: n - 1], b"pgboard: write fault\n"), f"write {n}")
-                if len(out) > 5:
-                    got = self.counted(words.split(), given, PIECE=5, REFUSE_WRITE=2)[0]
-                    self.assertEqual(got, (4, out[:5], b"pgboard: write fault\n"))
+        reads = [("", JOINED), ("tidy", GAPS), ("solve", ONE_EACH), ("trace", LAYERS)]
+        reads += [("verify game.pg game.sol", b""), ("solve --known game.sol game.pg", b"")]
+        writes = [("", JOINED), ("tidy", GAPS), ("solve --winners", CONTINENTS)]
+        writes += [("trace --workers 1", ONE_EACH), ("--version", b"")]
+        for kind, (words, text) in (*(("READ", it) for it in reads), *(("WRITE", it) for it in writes)):
+            with self.subTest(words, kind=kind):
+                how = {"PIECE": 1} if kind == "READ" else {}
+                (status, out, _), _ = self.counted(words.split(), text, **how)
+                self.assertEqual(status, 0)
+                count = len(out) if kind == "WRITE" else len(text) + 1 if text else len(ONE_EACH + HOLDS) + 2
+                for n, got in self.each(f"REFUSE_{kind}", range(1, count + 1), words.split(), text, PIECE=1):
+                    wanted = (4, out[: n - 1], b"pgboard: write fault\n") if kind == "WRITE" else READ_FAULT
+                    self.assertEqual(got, wanted, n)
+        got = self.counted(["tidy"], GAPS, PIECE=5, REFUSE_WRITE=2)[0]
+        self.assertEqual(got, (4, b"parit", b"pgboard: write fault\n"))
 
 
 # what a unit test says where memory was refused to what it needs itself

@@ -83,15 +83,18 @@ def next_formula(chance, depth, names, kinds):
         inner = next_formula(chance, depth - 1, names, kinds)
         return modality(chance.random() < 0.5, next_regular(chance, chance.choice([0, 0, 1, 2])), inner)
     left, right = next_formula(chance, depth - 1, names, kinds), next_formula(chance, depth - 1, names, [])
+    if chance.random() < 0.2:
+        # (no variable is under a negation)
+        return joined(next_formula(chance, depth - 1, [], []), "=>", left)
     return joined(left, chance.choice(["&&", "||"]), right)
 
 
 def joined(left, sign, right):
-    combine = set.intersection if sign == "&&" else set.union
-    return Formula(
-        f"({left.text} {sign} {right.text})",
-        lambda model, sets: combine(left.holds(model, sets), right.holds(model, sets)),
-    )
+    def holds(model, sets):
+        some, others = left.holds(model, sets), right.holds(model, sets)
+        return some & others if sign == "&&" else (model.states - some if sign == "=>" else some) | others
+
+    return Formula(f"({left.text} {sign} {right.text})", holds)
 
 
 @dataclasses.dataclass
@@ -231,7 +234,8 @@ BRACKETS = {
 
 
 def without_places(tree):
-    return (tree[0], *(without_places(it) if isinstance(it, tuple) else it for it in tree[2:]))
+    sides = lambda it: [*map(without_places, it)] if isinstance(it, list) else it
+    return (tree[0], *(without_places(it) if isinstance(it, tuple) else sides(it) for it in tree[2:]))
 
 
 # what is said of a game before it is solved
@@ -291,7 +295,7 @@ class ModelCheck(scripts.Use, unittest.TestCase):
         for text, brackets in BRACKETS.items():
             self.assertEqual(read(text), read(brackets), text)
         names = ("variable", "nu_"), ("variable", "andy'")
-        self.assertEqual(read("nu_ and andy'"), ("&&", *names))
+        self.assertEqual(read("nu_ and andy'"), ("&&", [*names]))
 
     def test_a_comment_in_an_action(self):
         self.model.write_text('des (0, 2, 2)\n(0, "a", 1)\n(1, "c(1)|b", 0)\n')

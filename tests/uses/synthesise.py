@@ -20,6 +20,7 @@ import common
 import plain
 import scripts
 from pgboard.command import diagrams, synthesise
+from pgboard.files import read_game
 
 SPECIFICATIONS = scripts.EXAMPLES / "synthesise"
 KINDS = "max even", "max odd", "min even", "min odd"
@@ -251,6 +252,15 @@ class Machine:
         return found[0][1:]
 
 
+def groups(steps):
+    """How many groups there are of states that behave alike, by the definition."""
+    found = dict.fromkeys(steps, 0)
+    for _ in steps:
+        keys = {it: str([(found[to], written) for to, written in steps[it]]) for it in steps}
+        found = {it: sorted(set(keys.values())).index(keys[it]) for it in steps}
+    return len(set(found.values()))
+
+
 def choices(width):
     return ["".join(it) for it in itertools.product("01", repeat=width)]
 
@@ -281,8 +291,8 @@ def product(automaton, machine, environment):
 
 
 def by_letters(automaton):
-    """The game in which the environment chooses the inputs of each letter, and the controller its outputs; and
-    its first vertex.
+    """The game in which the environment chooses the inputs of each letter, and the controller its outputs,
+    and its first vertex.
     """
     inputs = [it for it in range(automaton.width) if it not in automaton.controllable]
     rows = {"lost": (1, 0, {"lost"})}
@@ -319,19 +329,20 @@ def letters(cube):
 class Diagrams(unittest.TestCase):
     def test_random_formulas(self):
         """Each call agrees with truth tables, in which bit k is the value where variable j is bit j of k."""
+        least, most = (lambda *it, of=of: of(it) if max(it) < 2 else None for of in (min, max))
         for seed in range(200):
             chance = random.Random(seed)
             width = chance.randint(0, 10)
             made, everything = diagrams.Diagrams(), (1 << (1 << width)) - 1
-            tables = {0: 0, 1: everything}
-            for it in range(width):
-                tables[made.variable(it)] = sum(1 << k for k in range(1 << width) if k >> it & 1)
+            column = lambda it: sum(1 << k for k in range(1 << width) if k >> it & 1)
+            tables = {0: 0, 1: everything, **{made.variable(it): column(it) for it in range(width)}}
             for _ in range(30):
                 test, then, other = (chance.choice(list(tables)) for _ in range(3))
                 a, b, c = tables[test], tables[then], tables[other]
                 for found, table in (
                     (made.both(test, then), a & b),
                     (made.either(test, then), a | b),
+                    *((made.apply(of, test, then), table) for of, table in ((least, a & b), (most, a | b))),
                     (made.inverse(test), everything & ~a),
                     (made.choice(test, then, other), a & b | c & ~a),
                 ):
@@ -340,6 +351,20 @@ class Diagrams(unittest.TestCase):
             self.assertEqual(len({*tables.values()}), len(tables))
             some = chance.sample(list(tables), min(len(tables), 5))
             self.check_leaves(made, width, {it: tables[it] for it in some})
+            for it in some[1:]:
+                self.check_substitution(made, width, tables, it, some[0], chance)
+
+    def check_substitution(self, made, width, tables, diagram, other, chance):
+        """Some variables may be as they like, and in place of some is another diagram."""
+        levels = set(chance.sample(range(width), chance.randint(0, width)))
+        bits = sum(1 << it for it in levels)
+        holds = lambda k: tables[diagram] >> k & 1
+        like = {k & ~bits for k in range(1 << width) if holds(k)}
+        free = sum(1 << k for k in range(1 << width) if k & ~bits in like)
+        self.check_leaves(made, width, {made.without(diagram, levels, made.either): free})
+        put = lambda k: k | bits if tables[other] >> k & 1 else k & ~bits
+        placed = made.placed(diagram, lambda it: other if it in levels else made.variable(it), {})
+        self.check_leaves(made, width, {placed: sum(1 << k for k in range(1 << width) if holds(put(k)))})
 
     def check_leaves(self, made, width, tables):
         """Their cubes are disjoint and make them; and a diagram of leaves has each where it should."""
@@ -359,10 +384,9 @@ class Diagrams(unittest.TestCase):
         for at, part in parts.items():
             holds = {k for it in made.cubes(part, levels) for k in letters(it)}
             self.assertEqual(holds, {k for k, it in enumerate(last) if it == at})
-            word = lambda k: [k >> j & 1 for j in levels]
-            high = made.least(joined, made.leaf(at).__eq__)
-            least = min(map(word, holds))
-            self.assertEqual(high, (*(j for j in levels if least[j]), made.leaf(at)))
+            word = lambda k: "".join(str(k >> j & 1) for j in levels)
+            first = next(made.cubes(part, levels)).replace("-", "0")
+            self.assertEqual(first, min(map(word, holds)))
 
 
 class Synthesise(scripts.Use, unittest.TestCase):
@@ -428,35 +452,25 @@ class Synthesise(scripts.Use, unittest.TestCase):
         # who has no edge any more has lost
         rows.update({to: (int(is_realizable), 0, {to}) for _, to, _ in edges if to not in rows})
         self.assertLessEqual({*plain.winners(rows).values()}, {int(is_realizable)}, automaton.text())
-        # no two states behave alike
-        groups = dict.fromkeys(machine.rows, 0)
-        for _ in groups:
-            steps = {state: [machine.step(state, it) for it in choices(machine.reads)] for state in groups}
-            keys = {
-                state: str([(groups[to], written) for to, written in found]) for state, found in steps.items()
-            }
-            groups = {state: sorted(set(keys.values())).index(keys[state]) for state in groups}
-        self.assertEqual(len(set(groups.values())), len(groups))
+        steps = {state: [machine.step(state, it) for it in choices(machine.reads)] for state in machine.rows}
+        self.assertEqual(groups(steps), len(steps))
         return is_realizable
-
-    def read(self, text):
-        made = synthesise.Automaton("a.hoa", text)
-        return made, made.inputs, made.controllable
 
     def test_each_check_of_a_machine(self):
         """Tables of which one thing alone is wrong. The output has to be the input, and without that there
         is no edge.
         """
         head = 'HOA: v1 Start: 0 AP: 2 "i" "o" controllable-AP: 1 Acceptance: 2 Fin(1) & Inf(0) --BODY-- '
-        same = self.read(head + "State: 0 [0&1] 0 {0} [!0&!1] 0 {0} --END--")
-        each = self.read(head + "State: 0 [1] 0 {0} [!1] 1 {0} State: 1 [t] 1 {1} --END--")
+        read = lambda text: synthesise.Automaton("a.hoa", f"{head}{text} --END--")
+        same = read("State: 0 [0&1] 0 {0} [!0&!1] 0 {0}")
+        each = read("State: 0 [1] 0 {0} [!1] 1 {0} State: 1 [t] 1 {1}")
         two, none, fails = "s0 has two answers", "s0 has no answer to something", "fails: "
-        for name, (automaton, inputs, outputs), player, rows, said in [
+        for name, automaton, player, rows, said in [
             ("right", same, 0, ["0 s0 s0 0", "1 s0 s0 1"], None),
             ("two answers, both right", same, 0, ["0 s0 s0 0", "1 s0 s0 1", "1 s0 s0 1"], two),
             ("no answer to an input", same, 0, ["1 s0 s0 1"], none),
             ("a letter without an edge", same, 0, ["0 s0 s0 0", "1 s0 s0 0"], fails),
-            ("a letter without an edge, in a later state", same, 0, ["- s0 s1 -", "- s1 s1 1"], fails),
+            ("the same in a later state", same, 0, ["0 s0 s1 0", "1 s0 s1 1", "- s1 s1 1"], fails),
             ("right, by the other output", each, 0, ["- s0 s0 1"], None),
             ("an edge that is not accepted", each, 0, ["- s0 s0 0"], fails),
             ("such an edge in a later state", each, 0, ["- s0 s1 1", "0 s1 s1 0", "1 s1 s0 1"], fails),
@@ -466,11 +480,10 @@ class Synthesise(scripts.Use, unittest.TestCase):
             ("a state without a row", same, 0, ["0 s0 s0 0", "1 s0 s1 1"], "s1 has no answer to something"),
             ("the environment has no answer", same, 1, ["0 s0 s0 1"], none),
         ]:
-            reads, writes = (outputs, inputs) if player else (inputs, outputs)
-            table = f".r {rows[0].split(' ')[1]}\n" + "".join(f"{it}\n" for it in rows)
+            machine = synthesise.Machine(automaton, player)
             with self.subTest(name), self.refuses(said) if said else contextlib.nullcontext():
-                lines = synthesise.lines_of(table, automaton, reads, writes)
-                synthesise.check(automaton, player, *lines)
+                machine.read("\n".join([f".r {rows[0].split(' ')[1]}", *rows]))
+                machine.check()
 
     def test_forty_propositions(self):
         """A random automaton has the same answer where its propositions are some of forty."""
@@ -498,18 +511,31 @@ class Synthesise(scripts.Use, unittest.TestCase):
 
     def test_merged_machines(self):
         """They have a state for each group of those that behave alike, by the definition."""
+        automaton = synthesise.Automaton("a.hoa", common.text_of(SPECIFICATIONS, "arbiter_2.hoa"))
         for seed in range(300):
-            chance, made = random.Random(seed), diagrams.Diagrams()
-            count, reads = chance.randint(1, 12), [made.inverse(made.variable(0)), made.variable(0)]
-            steps = {it: [(chance.randrange(count), chance.choice("001")) for _ in reads] for it in range(count)}
-            machine = {it: {} for it in steps}
-            for it, (low, high) in steps.items():
-                machine[it] = {low: 1} if low == high else {low: reads[0], high: reads[1]}
-            groups = dict.fromkeys(steps, 0)
-            for _ in steps:
-                keys = {it: str([(groups[to], written) for to, written in steps[it]]) for it in steps}
-                groups = {it: sorted(set(keys.values())).index(keys[it]) for it in steps}
-            self.assertEqual(len(synthesise.merged(machine, made)), len(set(groups.values())), seed)
+            chance, machine = random.Random(seed), synthesise.Machine(automaton, 0)
+            count, high = chance.randint(1, 12), machine.diagrams.variable(0)
+            low = machine.diagrams.inverse(high)
+            step = lambda: (chance.randrange(count), chance.choice((0, 0, 1)))
+            steps = {it: [step(), step()] for it in range(count)}
+            for it, ((to, one), (to_high, one_high)) in steps.items():
+                written = machine.diagrams.choice(high, one_high, one)
+                machine.steps[it] = {to: 1} if to == to_high else {to: low, to_high: high}, [written]
+            machine.merge()
+            self.assertEqual(len(machine.steps), groups(steps), seed)
+
+    def test_arrays(self):
+        """The Python API says names, the first vertex, and the vertices of states."""
+        label = f"{'(' * 300}!!t{')' * 300}"
+        text = "HOA: v1 Start: 5 AP: 0 Acceptance: 0 t spot-state-player: 0 0 1 0 0 1 --BODY-- "
+        text += f'State: 5 "five" [{label}] 2 State: 2 "two" [t] 5 --END--'
+        found = read_game(self.file("game.hoa", text))
+        wanted = [2, 5], ["two", "five"], 1, {5: 1, 2: 0}, [1, 0]
+        self.assertEqual((found.ids, *found[5:], list(found.indices)), wanted)
+        found = read_game(SPECIFICATIONS / "arbiter_2.hoa")
+        names = {state: found.names[vertex] for state, vertex in found.states.items()}
+        self.assertEqual(names, {it: f"{it}, the environment" for it in (0, 1)})
+        self.assertEqual((found.first, found.states[0]), (0, 0))
 
     def test_aliases_before_the_outputs_are_named(self):
         """Then the order of propositions in labels is another one, and the machine is the same."""
@@ -520,7 +546,8 @@ class Synthesise(scripts.Use, unittest.TestCase):
             self.assertEqual(self.winner(moved.replace(line, some)), 0)
         self.assertNotEqual(moved, text)
         path = self.file("moved.hoa", moved)
-        self.assertEqual(self.call("--aiger", "-", path), self.call("--aiger", "-", SPECIFICATIONS / "arbiter_3.hoa"))
+        circuits = (self.call("--aiger", "-", it) for it in (path, SPECIFICATIONS / "arbiter_3.hoa"))
+        self.assertEqual(*circuits)
 
     def test_a_circuit_uses_numbers_without_a_state(self):
         circuit = self.call("--aiger", "-", SPECIFICATIONS / "traffic_light.hoa")[1]
@@ -537,14 +564,29 @@ class Synthesise(scripts.Use, unittest.TestCase):
                 self.assertEqual(answers[-1], plain.winners(game)[first])
         self.assertGreater(min(answers.count(0), answers.count(1)), 80)
 
-    def test_fourteen_propositions(self):
-        names = " ".join(f'"p{it}"' for it in range(14))
-        head = f"HOA: v1 Start: 5 AP: 14 {names} controllable-AP: 7 8 9 10 11 12 13 Acceptance: 0 t --BODY-- "
-        same = "&".join(f"({it}&{it + 7} | !{it}&!{it + 7})" for it in range(7))
-        is_realizable, machine = self.answer(self.file("same.hoa", f"{head} State: 5 [{same}] 5 --END--"))
-        self.assertTrue(is_realizable)
-        for read in choices(7):
-            self.assertEqual(machine.step(machine.first, read), (machine.first, read))
+    def test_outputs_that_are_inputs(self):
+        """A table of seven, and a circuit of twenty, whose diagrams are small."""
+        for width in (7, 20):
+            names, both = " ".join(f'"p{it}"' for it in range(2 * width)), range(width)
+            head = f"HOA: v1 Start: 5 AP: {2 * width} {names} Acceptance: 0 t controllable-AP: "
+            head += " ".join(str(width + it) for it in both)
+            same = "&".join(f"({it}&{it + width} | !{it}&!{it + width})" for it in both)
+            path = self.file("same.hoa", f"{head} --BODY-- State: 5 [{same}] 5 --END--")
+            lines = self.call("--aiger", "-", path)[1].splitlines()[1:]
+            literals = [str(2 * it + 2) for it in both]
+            wanted = [f"aag {width} {width} 0 {width} 0", *literals, *literals]
+            self.assertEqual(lines[: 2 * width + 1], wanted)
+            if width == 7:
+                machine = self.answer(path)[1]
+                for read in choices(width):
+                    self.assertEqual(machine.step(machine.first, read), (machine.first, read))
+
+    def test_an_arbiter_that_grants_nothing_unasked(self):
+        text = common.load(common.ROOT / "bench" / "specifications.py").text_of("unasked_16")
+        path, game = self.file("unasked.hoa", text), self.folder / "game.pg"
+        with unittest.mock.patch.object(diagrams, "MOST_NODES", 20_000):
+            self.assertEqual(self.call("--aiger", "-", "--game", game, path)[0], 0)
+        self.assertEqual(len(game.read_text().splitlines()), 2 + 128)
 
     def test_random_games_with_turns(self):
         answers = []
@@ -617,16 +659,15 @@ class Synthesise(scripts.Use, unittest.TestCase):
         """An answer comes before a file, and none before a circuit that is the answer."""
         made = synthesise.aiger.Circuit
 
-        def circuit(machine, automaton, *sides):
-            few = unittest.mock.patch.object(diagrams, "MOST_NODES", len(automaton.diagrams.nodes) + 1)
-            with few:
-                return made(machine, automaton, *sides)
+        def circuit(machine):
+            with unittest.mock.patch.object(diagrams, "MOST_NODES", len(machine.diagrams.nodes) + 1):
+                return made(machine)
 
         for path, wanted in (("-", ""), (self.folder / "c.aag", "REALIZABLE\n")):
-            out, words = io.StringIO(), [self.name, "--aiger", str(path), str(SPECIFICATIONS / "arbiter_2.hoa")]
+            out, words = io.StringIO(), ["--aiger", path, SPECIFICATIONS / "arbiter_2.hoa"]
             few = unittest.mock.patch.object(synthesise.aiger, "Circuit", circuit)
             with few, contextlib.redirect_stdout(out), self.refuses("the labels: .* more than [0-9]+ nodes$"):
-                self.script.main(words)
+                self.script.main([self.name, *map(str, words)])
             self.assertEqual(out.getvalue(), wanted)
 
     def test_a_table_of_too_many_lines(self):
@@ -672,7 +713,8 @@ class Synthesise(scripts.Use, unittest.TestCase):
 
     def test_pictures_read_back(self):
         paths = [SPECIFICATIONS / f"{name}.hoa" for name in (*KNOWN[True], *KNOWN[False])]
-        later = 'HOA: v1 Start: 7 AP: 1 "a" controllable-AP: 0 Acceptance: 0 t --BODY-- State: 7 [t] 7 --END--'
+        later = 'HOA: v1 Start: 7 AP: 1 "a" controllable-AP: 0 Acceptance: 0 t --BODY-- '
+        later += "State: 7 [t] 7 --END--"
         for path in (*paths, self.file("later.hoa", later)):
             with self.subTest(path):
                 picture = self.folder / "machine.dot"

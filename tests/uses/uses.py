@@ -214,9 +214,9 @@ class Convert(Use, unittest.TestCase):
     def test_arrays_of_a_file(self):
         rules = {"least": True, "dead_ends": True}
         found = read_game(pathlib.Path(self.file("game", gzip.compress(b"7 0 1 ; 5 3 0 7;"))), **rules)
-        wanted = [5, 7], [0, 1], [1, 0], [0, 1, 2], [1, 1]
-        self.assertEqual(tuple(map(list, found)), wanted)
-        self.assertEqual([it.typecode for it in found[1:]], ["B", "I", "I", "I"])
+        wanted = [5, 7], [0, 1], [1, 0], [0, 1, 2], [1, 1], ["", ""]
+        self.assertEqual((*map(list, found[:6]), *found[6:]), (*wanted, None, {}))
+        self.assertEqual([it.typecode for it in found[1:5]], ["B", "I", "I", "I"])
         self.assertEqual(list(read_game(self.file("game", "0 3 0 0;"), odd=True).priorities), [4])
         # (a host may have threads)
         packed = self.file("game", common.run(["zstd", "-c"], b"0 3 0 0;")[1])
@@ -421,11 +421,11 @@ class Explain(Use, unittest.TestCase):
             self.said(*texts, "--picture", picture)
 
     def test_the_shortest_walk(self):
-        """The long way round from 0 has 0's priority as its greatest as well, and the shortest leads through
-        a greater one.
+        """Long ways round from 0, by 1 and by 6, have 0's priority as their greatest as well, and the shortest
+        leads through a greater one.
         """
-        game = "0 3 1 1,2,4; 1 0 1 2; 2 0 1 3; 3 1 1 0; 4 4 1 0; 5 0 0 5;"
-        out = self.said(game, "0 0; 1 0; 2 0; 3 0; 4 0; 5 0 5;")
+        game = "0 3 1 1,2,4,6; 1 0 1 2; 2 0 1 3; 3 1 1 0; 4 4 1 0; 5 0 0 5; 6 0 1 7; 7 0 1 8; 8 0 1 0;"
+        out = self.said(game, "0 0; 1 0; 2 0; 3 0; 4 0; 5 0 5; 6 0; 7 0; 8 0;")
         self.assertEqual(re.findall(r"(?m)^  (\d+): ", out), ["0", "2", "3"])
 
     def test_a_dead_end(self):
@@ -512,6 +512,11 @@ class Winner(Use, unittest.TestCase):
 # --- solve, verify and stats ---
 
 
+def text_of(numbers):
+    row = lambda it: ", ".join(f"{name} {number}" for name, number in it.items())
+    return "".join(f"{name}: {row(it) if isinstance(it, dict) else it}\n" for name, it in numbers.items())
+
+
 class Solve(Use, unittest.TestCase):
     """Over the program, and in bindings/python/test_command.py over the library, which tells its entries."""
 
@@ -529,6 +534,7 @@ class Solve(Use, unittest.TestCase):
             text = plain.written_game(game) + "# all\n" * (seed % 2)
             path, id = self.file("game.pg", text), chance.choice(list(game))
             with self.subTest(game=game):
+                self.check_components(game, path)
                 status, out = self.call(path)
                 self.assertEqual((status, plain.written_fault(game, out.encode())), (0, None))
                 winner = plain.winners(game)[id]
@@ -541,6 +547,14 @@ class Solve(Use, unittest.TestCase):
                 known = {id: wrong[id] for id in chance.sample([*wrong], len(wrong)) if chance.random() < 0.7}
                 kinds.add(self.takes_what_is_known(game, path, known))
         self.assertEqual(len(kinds), 5, kinds)
+
+    def check_components(self, game, path):
+        reach = {id: {id} for id in game}
+        for _ in game:
+            reach = {id: them.union(*(game[it][2] for it in them)) for id, them in reach.items()}
+        sizes = [*map(len, {frozenset(to for to in reach[id] if id in reach[to]) for id in game})]
+        wanted = {"number": len(sizes), "greatest": max(sizes), "least": min(sizes)}
+        self.assertEqual(json.loads(self.word("stats", "--json", path)[1])["components"], wanted)
 
     def takes_what_is_known(self, game, path, known):
         part, why = self.file("part.sol", lines_of(known)), next(plain.known_faults(game, known), None)
@@ -556,7 +570,7 @@ class Solve(Use, unittest.TestCase):
         )
         return re.sub(r"\d+", "", why)
 
-    # what `stats` says of the game of these tests, as text and as JSON
+    # what `stats` says of the game of these tests, as JSON and as text
     NUMBERS = {
         "vertices": 3,
         "edges": 4,
@@ -566,13 +580,10 @@ class Solve(Use, unittest.TestCase):
         "greatest degrees": {"out": 2, "in": 2},
         "components": {"number": 3, "greatest": 1, "least": 1},
     }
-    STATS = "vertices: 3\nedges: 4\nowners: Even 1, Odd 2\n"
-    STATS += "priorities: least 1, greatest 4, different 3\nown loops: 2\n"
-    STATS += "greatest degrees: out 2, in 2\ncomponents: number 3, greatest 1, least 1\n"
+    STATS = text_of(NUMBERS)
 
     def test_json_and_statistics(self):
         path = self.file("game.pg", 'parity 2;\n5 2 0 5,9 "a";\n9 1 1 9;\n7 4 1 5;\n')
-        wrong = self.file("wrong", "5 0 9; 9 1 9; 7 0;")
         self.assertEqual(json.loads(self.word("stats", "--json", path)[1]), self.NUMBERS)
         self.assertEqual(self.word("stats", path), (0, self.STATS))
         found = json.loads(self.call("--json", "--stats", "--keep-names", path)[1])
@@ -589,27 +600,6 @@ class Solve(Use, unittest.TestCase):
         self.assertEqual((status, out), (0, "paritysol 9;\n5 0 5;\n7 0;\n9 1 9;\n"))
         more = r"winners: Even 2, Odd 1\nseconds: [0-9.]+\n" + r"entries: [123]\n" * self.has_entries
         self.assertRegex(err, rf"\A{re.escape(self.STATS)}{more}\Z")
-        said = {"is_solution": False, "fault": "5 leaves to 9"}
-        won = {"vertex": 7, "winner": 0}
-        for status, wanted, *asked in (
-            (1, said, "verify", path, wrong),
-            (0, won, "winner", "--vertex", "7", path),
-            (0, {**won, "reach": [5, 7]}, "winner", "--reach", "--vertex", "7", path),
-        ):
-            self.assertEqual(self.word(*asked, "--json"), (status, json.dumps(wanted) + "\n"))
-
-    def test_components_of_random_games(self):
-        for seed in range(100):
-            game = random_games.random_game(random.Random(seed))
-            reach = {id: {id} for id in game}
-            for _ in game:
-                reach = {id: them.union(*(game[it][2] for it in them)) for id, them in reach.items()}
-            parts = {frozenset(to for to in reach[id] if id in reach[to]) for id in game}
-            path = self.file("game.pg", plain.written_game(game))
-            found = json.loads(self.word("stats", "--json", path)[1])
-            sizes = list(map(len, parts))
-            wanted = {"number": len(sizes), "greatest": max(sizes), "least": min(sizes)}
-            self.assertEqual(found["components"], wanted, game)
 
 
 # --- all ---
@@ -705,7 +695,7 @@ class Refused(Use, unittest.TestCase):
     def ended(self, words, given):
         if self.first == ["why"]:
             status, _, said = common.program(*words, given=given)
-            return status, *scripts.called(self.script, ["why", said.decode(), *words[1:]])[1:]
+            return status, *scripts.called(self.script, ["why", said.decode(), words[-1], ""])[1:]
         try:
             return scripts.called(self.script, [*self.first, *words], given)
         except self.script.Refused as fault:
@@ -836,6 +826,7 @@ class Ends(unittest.TestCase):
             *((WINNER, number, *ends) for number in SIGNALS),
             (WINNER, signal.SIGINT, "trap '' TERM", "exec sleep 99"),
             (MODELCHECK, signal.SIGTERM, ":", "exec sleep 99"),
+            (WINNER, signal.SIGKILL, ":", "exec sleep 99"),
         ):
             with self.subTest(command[2], number=number):
                 process, program = self.start(command, waits, first)
@@ -852,11 +843,6 @@ class Ends(unittest.TestCase):
         # (on a slow machine other lines come too)
         self.assertEqual((ran.returncode, first, last), (0, "", ""))
         self.assertLessEqual({"pgboard: solve runs, 1 s", "pgboard: solve runs, 2 s"}, {*lines})
-
-    def test_a_command_that_is_killed(self):
-        process, program = self.start(WINNER)
-        process.kill()
-        self.check_ended(process, signal.SIGKILL, program)
 
     def test_a_signal_that_is_ignored(self):
         process, program = self.start(["sh", "-c", 'trap "" HUP INT; exec "$@"', "", *WINNER])

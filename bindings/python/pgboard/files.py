@@ -13,13 +13,18 @@ if TYPE_CHECKING:
 
 
 class Game(NamedTuple):
-    """A game in arrays as `solve_csr` takes them, and the identifiers of its vertices."""
+    """A game in arrays as `solve_csr` takes them, the identifiers and the names of its vertices, the vertex in
+    which the text begins, or None, and of a text in the HOA format the vertex of each state.
+    """
 
     ids: list[int]
     owners: Ints
     priorities: Ints
     indptr: Ints
     indices: Ints
+    names: list[str]
+    first: int | None
+    states: dict[int, int]
 
 
 def read_bytes(path: str | bytes | os.PathLike[str]) -> bytes:
@@ -45,6 +50,11 @@ def read_game(
 
     try:
         rules = SimpleNamespace(min=least, odd=odd, dead_ends=dead_ends)
-        return Game(*game_of(os.fspath(path), rules).arrays())
+        game = game_of(os.fspath(path), rules)
+        arrays = game.arrays()
+        vertices = {id: vertex for vertex, id in enumerate(arrays[0])}
+        states = {state: vertices[id] for state, id in game.states.items()}
+        names = [game.rows[id][3] for id in vertices]
+        return Game(*arrays, names, vertices.get(game.start), states)
     except Refused as refused:
         raise ValueError(str(refused)) from None

@@ -1,7 +1,5 @@
 /* Goes through the calls on boards of include/pgboard.h: each answer, what is reported beside it, and that nothing else is written.
- * The last line is 'N passed, M failed'. With the word `threads` and a seed, eight threads post random claims on one board; it
- * writes the game, each post with its answer, in order, and then the journal and the state. */
-#include <pthread.h>
+ * The last line is 'N passed, M failed'. */
 #include <string.h>
 
 #include "expect.h"
@@ -329,126 +327,8 @@ static void has_no_effect_with_steps_enough(void)
     }
 }
 
-static pthread_mutex_t turn = PTHREAD_MUTEX_INITIALIZER;
-
-/* A good claim, or one with something wrong. */
-static struct rows random_claim(uint64_t *seed)
+int main(void)
 {
-    struct rows it = good_claim(seed);
-    size_t k = drawn(seed, it.vertices_len);
-    uint32_t v = it.vertices[k];
-    switch (drawn(seed, 9)) {
-    case 0: /* one choice is another edge */
-        if (it.choices[k] != NONE)
-            it.choices[k] = targets[starts[v] + drawn(seed, starts[v + 1] - starts[v])];
-        break;
-    case 1: /* the other player, with choices at his vertices */
-        it.player ^= 1;
-        for (k = 0; k < it.vertices_len; k++)
-            it.choices[k] = owners[it.vertices[k]] == it.player ? targets[starts[it.vertices[k]]] : NONE;
-        break;
-    case 2: /* one row is left out */
-        memmove(it.vertices + k, it.vertices + k + 1, (it.vertices_len-- - k) * 4);
-        memmove(it.choices + k, it.choices + k + 1, (it.choices_len-- - k) * 4);
-        break;
-    case 3: /* any vertices */
-        it.vertices_len = 0;
-        for (v = 0; v < n; v++)
-            if (drawn(seed, 3) == 0) {
-                it.choices[it.vertices_len] = owners[v] == it.player ? targets[starts[v] + drawn(seed, starts[v + 1] - starts[v])] : NONE;
-                it.vertices[it.vertices_len++] = v;
-            }
-        it.choices_len = it.vertices_len;
-        break;
-    case 4: it.vertices[k] = (uint32_t)drawn(seed, n + 2); break;
-    case 5: it.choices[k] = (uint32_t)drawn(seed, n + 1); break;
-    case 6: it.player = (uint32_t)drawn(seed, 4); break;
-    case 7: it.choices_len = drawn(seed, it.choices_len + 1); break;
-    default: break;
-    }
-    return it;
-}
-
-static void *posts(void *given)
-{
-    uint64_t seed = *(uint64_t *)given;
-    for (int k = 0; k < 20; k++) {
-        struct rows it = random_claim(&seed);
-        struct pgboard_claim claim = {.size = sizeof claim, .worker = (uint32_t)(seed >> 32), .player = it.player, .vertices = it.vertices,
-                                      .vertices_len = it.vertices_len, .choices = it.choices, .choices_len = it.choices_len};
-        struct pgboard_posted numbers = {0, 0, 0};
-        struct pgboard_report said;
-        pthread_mutex_lock(&turn);
-        uint32_t answer = pgboard_board_post(&board, &claim, &numbers, &said);
-        printf("post %u %u %u %llu %llu %llu %llu %llu |", answer, claim.worker, claim.player, (unsigned long long)said.at, (unsigned long long)said.to,
-               (unsigned long long)numbers.entry, (unsigned long long)numbers.claimed, (unsigned long long)numbers.settled);
-        for (size_t r = 0; r < it.vertices_len; r++)
-            printf(" %u", it.vertices[r]);
-        printf(" |");
-        for (size_t r = 0; r < it.choices_len; r++)
-            printf(" %u", it.choices[r]);
-        printf("\n");
-        pthread_mutex_unlock(&turn);
-    }
-    return NULL;
-}
-
-/* The entries from a number on. */
-static void write_entries(uint64_t from)
-{
-    for (uint64_t number = from; number < pgboard_board_entries(&board); number++) {
-        if (pgboard_board_entry(&board, number, &entry, rows, MOST, row_choices, MOST, &report) != PGBOARD_OK)
-            exit(2);
-        printf("entry %u %u %llu |", entry.worker, entry.player, (unsigned long long)entry.claimed);
-        for (uint64_t r = 0; r < entry.rows; r++)
-            printf(" %u %u", rows[r], row_choices[r]);
-        printf("\n");
-    }
-}
-
-static int threads(uint64_t seed)
-{
-    pthread_t ids[8];
-    uint64_t seeds[8];
-    random_game(&seed);
-    struct pgboard_game it = game();
-    struct pgboard_results right = {.size = sizeof right, .winners = right_winners, .winners_len = n, .choices = right_choices, .choices_len = n};
-    if (pgboard_solve(&it, &right, &report) != PGBOARD_OK || opens() != PGBOARD_OK)
-        return 2;
-    for (size_t v = 0; v < n; v++) {
-        printf("vertex %u %u", priorities[v], owners[v]);
-        for (uint32_t e = starts[v]; e < starts[v + 1]; e++)
-            printf(" %u", targets[e]);
-        printf("\n");
-    }
-    for (int k = 0; k < 8; k++) {
-        seeds[k] = seed + 0x9E3779B97F4A7C15u * (uint64_t)(k + 1);
-        if (pthread_create(&ids[k], NULL, posts, &seeds[k]) != 0)
-            return 2;
-    }
-    for (int k = 0; k < 8; k++)
-        pthread_join(ids[k], NULL);
-    write_entries(0);
-    if (state() != PGBOARD_OK)
-        return 2;
-    for (size_t v = 0; v < n; v++)
-        printf("state %u %u\n", winners[v], choices[v]);
-    uint64_t before = pgboard_board_entries(&board);
-    printf("settled %llu\n", (unsigned long long)pgboard_board_settled(&board));
-    if (finishes() != PGBOARD_OK || solution() != PGBOARD_OK)
-        return 2;
-    printf("finished\n");
-    write_entries(before);
-    for (size_t v = 0; v < n; v++)
-        printf("state %u %u\n", winners[v], choices[v]);
-    pgboard_board_close(&board);
-    return 0;
-}
-
-int main(int argc, char **argv)
-{
-    if (argc > 2 && strcmp(argv[1], "threads") == 0)
-        return threads(strtoull(argv[2], NULL, 10) * 2 + 1);
     is_closed_at_first();
     posts_and_refuses();
     refuses_results();

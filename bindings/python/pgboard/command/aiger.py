@@ -69,31 +69,28 @@ class Circuit:
     gates.
     """
 
-    def __init__(self, machine, automaton, inputs, outputs):
-        """`machine` has of each state, the first one first, by (next state, bits that are written) the
-        diagram of what is read.
-        """
-        self.diagrams = automaton.diagrams
-        self.input_names = [automaton.names[it] for it in inputs]
-        self.output_names = [automaton.names[it] for it in outputs]
-        self.latches = (len(machine) - 1).bit_length()
+    def __init__(self, machine):
+        self.diagrams, (self.input_names, self.output_names) = machine.diagrams, machine.names()
+        self.latches = (len(machine.steps) - 1).bit_length()
         # the bits of the state are above the inputs
-        levels = [*(automaton.levels[it] for it in inputs), *range(-self.latches, 0)]
+        levels = [*machine.levels, *range(-self.latches, 0)]
         variables = {it: 2 * at for at, it in enumerate(levels, 1)}
-        self.gates, self.roots = self.made(variables, self.wanted(machine))
+        self.gates, roots = self.made(variables, self.wanted(machine.steps))
+        written = dict(zip(machine.named, roots[self.latches :]))
+        self.roots = [*roots[: self.latches], *(written.get(it, 0) for it in machine.writes)]
 
-    def wanted(self, machine):
+    def wanted(self, steps):
         """Of each bit of the next state, and of each output, the least and the greatest diagram, by state and
         inputs.
         """
-        number, either = {state: at for at, state in enumerate(machine)}, self.diagrams.either
-        columns = [[0] * len(machine) for _ in range(self.latches + len(self.output_names))]
-        for state, lines in machine.items():
-            for (to, written), reads in lines.items():
-                code = format(number[to], f"0{self.latches}b") if self.latches else ""
-                for column in (it for it, value in zip(columns, code + written) if value == "1"):
-                    column[number[state]] = either(reads, column[number[state]])
-        return [(self.by_state(it, 0), self.by_state(it, 1)) for it in columns]
+        number, columns = {state: at for at, state in enumerate(steps)}, []
+        for targets, writes in steps.values():
+            bits = [0] * self.latches
+            for to, reads in targets.items():
+                for it in (it for it in range(self.latches) if number[to] >> it & 1):
+                    bits[it] = self.diagrams.either(reads, bits[it])
+            columns.append([*bits[::-1], *writes])
+        return [(self.by_state(it, 0), self.by_state(it, 1)) for it in zip(*columns)]
 
     def by_state(self, parts, free):
         """The diagram of those of the states, and of what a number without a state has."""

@@ -55,25 +55,26 @@ class Diagrams:
         own, low, high = self.nodes[diagram]
         return (low, high) if own == level else (diagram, diagram)
 
+    def apply(self, of, *given):
+        """The diagram that `of` makes of others; where it says None their halves tell."""
+        found = of(*given)
+        if found is None:
+            known = self.known.setdefault(of, {})
+            found = known.get(given)
+            if found is None:
+                level = min([self.nodes[it][0] for it in given])
+                lows, highs = zip(*[self.halves(it, level) for it in given])
+                found = self.node(level, self.apply(of, *lows), self.apply(of, *highs))
+                if len(known) >= MOST_NODES:
+                    known.clear()
+                known[given] = found
+        return found
+
     # --- of false and true; `then` and `other` may have other leaves ---
 
     def choice(self, test, then, other):
         """What `then` is where `test` is true, and what `other` is elsewhere."""
-        if test < 2 or then == other:
-            return then if test else other
-        if then == 1 and other == 0:
-            return test
-        found = self.known.get((test, then, other))
-        if found is None:
-            level = min(self.nodes[test][0], self.nodes[then][0], self.nodes[other][0])
-            (test_0, test_1), (then_0, then_1) = self.halves(test, level), self.halves(then, level)
-            other_0, other_1 = self.halves(other, level)
-            low, high = self.choice(test_0, then_0, other_0), self.choice(test_1, then_1, other_1)
-            found = self.node(level, low, high)
-            if len(self.known) >= MOST_NODES:
-                self.known.clear()
-            self.known[test, then, other] = found
-        return found
+        return self.apply(chosen, test, then, other)
 
     def both(self, test, then):
         return self.choice(test, then, 0)
@@ -102,21 +103,35 @@ class Diagrams:
             elif diagram:
                 yield "".join(path.get(it, "-") for it in levels)
 
-    # --- of all nodes down to a level ---
+    # --- of all nodes ---
 
-    def fold(self, diagram, of, join, border=LEAF, known=None):
-        """What `join` makes, of a node's level and of what was made of both its halves; `of` makes it of what
-        tests no variable above the border. The lower halves come first.
+    def fold(self, diagram, of, join=None, known=None):
+        """What `join` makes of a node's level and of what was made of both its halves, where `of` makes it of
+        the leaves; by itself a diagram of other leaves. The lower halves come first.
         """
         known = {} if known is None else known
+        if diagram not in known:
+            level, low, high = self.nodes[diagram]
+            if level == LEAF:
+                known[diagram] = of(diagram)
+            else:
+                sides = self.fold(low, of, join, known), self.fold(high, of, join, known)
+                known[diagram] = (join or self.node)(level, *sides)
+        return known[diagram]
 
-        def made(diagram):
-            if diagram not in known:
-                level, low, high = self.nodes[diagram]
-                known[diagram] = of(diagram) if level >= border else join(level, made(low), made(high))
-            return known[diagram]
+    def mapped(self, diagram, of):
+        """The diagram of other values in the leaves."""
+        return self.fold(diagram, lambda leaf: self.leaf(of(self.value(leaf))))
 
-        return made(diagram)
+    def without(self, diagram, levels, join):
+        """What `join` makes of both halves at each node of these levels."""
+        joined = lambda level, *halves: join(*halves) if level in levels else self.node(level, *halves)
+        return self.fold(diagram, lambda leaf: leaf, joined)
+
+    def placed(self, diagram, of, known):
+        """The diagram over other diagrams in place of its variables."""
+        join = lambda level, low, high: self.choice(of(level), high, low)
+        return self.fold(diagram, lambda leaf: leaf, join, known)
 
     def parts(self, diagram):
         """Where each leaf of a diagram is."""
@@ -131,11 +146,14 @@ class Diagrams:
         self.fold(diagram, found.setdefault, lambda *_: None)
         return list(found)
 
-    def least(self, diagram, is_wanted, border=LEAF, known=None):
-        """The first path to something that is wanted, which has 0 before 1: the levels with 1, and what was
-        wanted; or None.
-        """
-        of = lambda it: (it,) if is_wanted(it) else None
-        after = lambda level, high: high and (level, *high)
-        join = lambda level, low, high: after(level, high) if low is None else low
-        return self.fold(diagram, of, join, border, known)
+    def levels(self, diagram):
+        """Those of its nodes."""
+        found = set()
+        self.fold(diagram, bool, lambda level, *_: found.add(level))
+        return found
+
+
+def chosen(test, then, other):
+    if test < 2 or then == other:
+        return then if test else other
+    return test if (then, other) == (1, 0) else None

@@ -187,14 +187,11 @@ class Library:
             board.finish(timeout=timeout)
 
     def solve_bytes(self, data, timeout):
-        """A solution's text, which is verified."""
         with self.of_texts(self.calls.Board.from_text, data) as board:
             self.finish(board, timeout)
             if board.settled < board.vertices:
                 raise late(timeout, board.settled, board.vertices)
-            text = board.solution_text()
-        check(self.verify_bytes(data, text.encode()))
-        return text
+            return board.solution_text()
 
     def verify(self, game, solution):
         table = self.table(game)
@@ -212,6 +209,9 @@ class Library:
         except self.calls.NotASolution as fault:
             return SAID[type(fault).__name__].format(fault.at, fault.to)
         return "ok"
+
+    def tidy_bytes(self, data):
+        return self.of_texts(self.calls.tidy_text, data)
 
     def of_texts(self, call, *texts):
         try:
@@ -304,10 +304,7 @@ class Program:
         return solution_of("the solution", text), True, None
 
     def solve_bytes(self, data, timeout):
-        """A solution's text, which is verified."""
-        text = self.solution(timeout, data)
-        check(self.verify_bytes(data, text.encode()))
-        return text
+        return self.solution(timeout, data)
 
     def verify(self, game, solution):
         return self.verify_bytes(data_of(plain(game)), data_of(solution))
@@ -321,6 +318,9 @@ class Program:
             raise Refused(why, FILE, said=left.encode())
         sys.stderr.write(left)
         return fault[1] if fault else "ok"
+
+    def tidy_bytes(self, data):
+        return self.run("tidy", data)[1]
 
 
 def as_it_is(name, *given):

@@ -10,7 +10,7 @@ fixed points. An action is compared with the label's text.
 import re
 
 from . import Refused, called, deep, shown
-from .texts import Tokens, blanked, kinds
+from .texts import FROM_THE_RIGHT, Tokens, blanked, kinds
 
 OPERATORS = ("=>", "||", "&&")
 VALUES = ("true", "false")
@@ -39,11 +39,19 @@ def spelled(label):
     return "|".join(sorted("".join(parts).split("\n")))
 
 
+def chained(operator, at, left, right):
+    first, after = (right, left) if operator in FROM_THE_RIGHT else (left, right)
+    sides = first[2] if first[0] == operator else [first]
+    sides.append(after)
+    return operator, at, sides
+
+
 class Parser(Tokens):
     """Reads a formula: a tree (operator, place, ..), in which negations and implications still stand.
 
     What a modality has in its brackets is a tree (operator, text, ..). Its leaves are actions, quoted
-    labels, true and false.
+    labels, true and false. A chain, which may be long, is one tree; what joins from the right has its last
+    side first.
     """
 
     pattern = kinds(
@@ -71,7 +79,7 @@ class Parser(Tokens):
         return self.wants("the end of the formula") if self.next else tree
 
     def formula(self):
-        return self.chain(OPERATORS, self.unary, lambda *tree: tree)
+        return self.chain(OPERATORS, self.unary, chained)
 
     def unary(self):
         at = self.at()
@@ -136,7 +144,7 @@ class Parser(Tokens):
         for it in (left, right):
             if operator in OPERATORS and it[0] in REGULAR:
                 self.refuse(f"{operator} joins sets of actions, and {shown(it[1])} is none", at)
-        return operator, self.since(at), left, right
+        return chained(operator, self.since(at), left, right)
 
     def action(self):
         at = self.at()
@@ -172,25 +180,27 @@ class Labels:
         self.all = (1 << len(self.numbers)) - 1
 
     def taken(self, tree):
-        # (a chain may be long, and is no nesting)
-        chain = []
-        while tree[0] in OPERATORS:
-            operator, _, tree, right = tree
-            chain.append((operator, right))
         operator, _, *parts = tree
         if operator in VALUES:
-            found = self.all if operator == "true" else 0
-        elif operator == "!":
-            found = self.all & ~self.taken(*parts)
-        elif operator == "label":
-            found = 1 << self.numbers[parts[0]] if parts[0] in self.numbers else 0
-        else:
-            found = sum(1 << it for it in self.spelled.get(parts[0], ()))
-        for operator, right in reversed(chain):
-            other = self.taken(right)
-            found = self.all & ~found if operator == "=>" else found
-            found = found & other if operator == "&&" else found | other
+            return self.all if operator == "true" else 0
+        if operator == "!":
+            return self.all & ~self.taken(*parts)
+        if operator == "label":
+            return 1 << self.numbers[parts[0]] if parts[0] in self.numbers else 0
+        if operator == "action":
+            return sum(1 << it for it in self.spelled.get(parts[0], ()))
+        found, *others = map(self.taken, parts[0])
+        for it in others:
+            it = self.all & ~it if operator == "=>" else it
+            found = found & it if operator == "&&" else found | it
         return found
+
+
+def turned_sides(operator, sides):
+    """The sides of a chain, and whether a negation is before each: of => before all but the last, which is
+    first.
+    """
+    return [(it, operator == "=>" and at > 0) for at, it in enumerate(sides)]
 
 
 def named(tree):
@@ -204,13 +214,21 @@ def named(tree):
         if operator in ("label", "action"):
             found += [] if negated else [tree]
         elif operator not in VALUES:
-            turned = negated != (operator in ("!", "=>"))
-            waiting += [(it, negated if at else turned) for at, it in enumerate(parts)][::-1]
+            is_chain = isinstance(parts[0], list)
+            sides = turned_sides(operator, parts[0]) if is_chain else [(parts[0], operator == "!")]
+            sides = [(it, negated != turned) for it, turned in sides]
+            waiting += sides if operator in FROM_THE_RIGHT else sides[::-1]
     return found
 
 
 DUAL = {"true": "false", "&&": "||", "<": "[", "mu": "nu"}
 DUAL.update({value: key for key, value in DUAL.items()})
+
+
+def greatest_of(some, others):
+    """Both, and of what both have the greater value."""
+    most, few = (some, others) if len(some) > len(others) else (others, some)
+    return {**most, **{it: max(value, most.get(it, 0)) for it, value in few.items()}}
 
 
 class Formula:
@@ -227,56 +245,30 @@ class Formula:
     def __init__(self, name, text):
         self.parser = Parser(name, text)
         self.parts, self.texts = [], []
-        # what the modalities have in their brackets, in order
-        self.regulars = []
-        # a forest of the places of variables, in which what is inside a fixed point is below it, as far as a
-        # variable of it is; of each node the one above, or itself, and the greatest priority from it up to there
-        self.above, self.greatest, self.used = [], [], {}
+        # what the modalities have in their brackets, by their places
+        self.regulars = {}
         with deep():
-            self.first, _, _ = self.add(self.parser.whole(), False, {})
+            self.first, *_ = self.add(self.parser.whole(), False, {})
 
     def new(self, operator=None, text="", parts=(), actions=None, number=None):
-        """Adds a subformula of some parts: its number, the node above the variables in it, and its text."""
+        """Adds a subformula of some parts: its number, its text, and of each fixed point whose variable is in
+        it the greatest priority of those around the variable.
+        """
         if number is None:
             number = len(self.parts)
             self.parts.append(None)
             self.texts.append(None)
-        node = None
+        priority, free = int(operator == "false"), parts[0][2] if parts else {}
+        for _, _, others in parts[1:]:
+            free = free if free is others else greatest_of(free, others)
+        if operator in FIXED_POINTS:
+            priority = free.get(number, 0)
+            priority += (priority + (operator == "mu")) % 2
+            free = {it: max(inside, priority) for it, inside in free.items() if it != number}
         if operator:
-            is_fixed, priority = operator in FIXED_POINTS, int(operator == "false")
-            if is_fixed:
-                priority = max(map(self.inside, self.used.pop(number, ())), default=0)
-                priority += (priority + (operator == "mu")) % 2
-            nodes = {self.root(node) for _, node, _ in parts if node is not None}
-            # (one that is above all of them stays)
-            is_new = len(nodes) > 1 or nodes and is_fixed and priority
-            node = self.node(nodes, priority * is_fixed) if is_new else next(iter(nodes), None)
             self.parts[number] = operator, priority, actions, [part for part, _, _ in parts]
             self.texts[number] = text if len(text) <= NAME_LENGTH else text[: NAME_LENGTH - 2] + ".."
-        return number, node, self.texts[number]
-
-    def node(self, below=(), priority=0):
-        """A new node above others."""
-        made = len(self.above)
-        self.above.append(made)
-        self.greatest.append(priority)
-        for it in below:
-            self.above[it] = made
-        return made
-
-    def root(self, node):
-        """The node above all others. The path to it is made short (Tarjan 1975)."""
-        path = [node]
-        while self.above[path[-1]] != path[-1]:
-            path.append(self.above[path[-1]])
-        for it, up in zip(path[-3::-1], path[-2::-1]):
-            self.above[it], self.greatest[it] = path[-1], max(self.greatest[it], self.greatest[up])
-        return path[-1]
-
-    def inside(self, node):
-        """The greatest priority of the fixed points around the place of a variable."""
-        top = self.root(node)
-        return max(self.greatest[node], self.greatest[top])
+        return number, self.texts[number], free
 
     def add(self, tree, negated, scope):
         operator, at, *rest = tree
@@ -284,63 +276,46 @@ class Formula:
             return self.add(rest[0], not negated, scope)
         if operator == "variable":
             return self.variable(at, rest[0], negated, scope)
-        if operator == "=>":
-            left, right = self.add(rest[0], not negated, scope), self.add(rest[1], negated, scope)
-            return self.join("&&" if negated else "||", left, right)
-        kind, operator = operator, DUAL[operator] if negated else operator
+        kind, operator = operator, "||" if operator == "=>" else operator
+        operator = DUAL[operator] if negated else operator
         if operator in ("<", "["):
-            self.regulars.append(rest[0])
+            self.regulars[at] = rest[0]
             return self.step(operator, rest[0], self.add(rest[1], negated, scope))
         if operator in FIXED_POINTS:
-            number, _, _ = self.new()
+            number, *_ = self.new()
             part = self.add(rest[1], negated, {**scope, rest[0]: (number, negated)})
-            return self.new(operator, f"{operator} {rest[0]}. {part[2]}", [part], number=number)
+            return self.new(operator, f"{operator} {rest[0]}. {part[1]}", [part], number=number)
         if operator in VALUES:
             return self.new(operator, operator)
-        # (a chain may be long, and is no nesting)
-        chain = []
-        while tree[0] == kind:
-            _, _, tree, right = tree
-            chain.append(right)
-        found = self.add(tree, negated, scope)
-        for it in reversed(chain):
-            found = self.join(operator, found, self.add(it, negated, scope))
-        return found
+        sides = [self.add(it, negated != turned, scope) for it, turned in turned_sides(kind, rest[0])]
+        return self.join(operator, sides, kind in FROM_THE_RIGHT)
 
-    def join(self, operator, left, right):
-        return self.new(operator, f"({left[2]} {operator} {right[2]})", [left, right])
+    def join(self, operator, sides, from_the_right=False):
+        found, *others = sides
+        for it in others:
+            left, right = (it, found) if from_the_right else (found, it)
+            found = self.new(operator, f"({left[1]} {operator} {right[1]})", [left, right])
+        return found
 
     def step(self, modality, regular, after):
         """Adds a modality before a subformula that was added."""
-        # (a sequence may be long, and is no nesting)
-        sequence = []
-        while regular[0] == ".":
-            _, _, first, regular = regular
-            sequence.append(first)
-        if sequence:
-            for it in (regular, *reversed(sequence)):
-                after = self.step(modality, it, after)
-            return after
         operator, text, *parts = regular
-        text = (f"<{text}> " if modality == "<" else f"[{text}] ") + after[2]
-        if operator not in REGULAR:
-            return self.new(modality, text, [after], regular)
         join, fixed = ("||", "mu") if modality == "<" else ("&&", "nu")
         if operator == "+":
-            rights = []
-            while regular[0] == "+":
-                _, _, regular, right = regular
-                rights.append(right)
-            found = self.step(modality, regular, after)
-            for it in reversed(rights):
-                found = self.join(join, found, self.step(modality, it, after))
-            return found
-        number, _, _ = self.new()
-        again = self.use(number, text)
+            return self.join(join, [self.step(modality, it, after) for it in parts[0]])
+        if operator == ".":
+            for it in parts[0]:
+                after = self.step(modality, it, after)
+            return after
+        text = (f"<{text}> " if modality == "<" else f"[{text}] ") + after[1]
+        if operator not in REGULAR:
+            return self.new(modality, text, [after], regular)
+        number, *_ = self.new()
+        again = number, text, {number: 0}
         if operator == "*":
-            part = self.join(join, after, self.step(modality, parts[0], again))
+            part = self.join(join, [after, self.step(modality, parts[0], again)])
         else:
-            part = self.step(modality, parts[0], self.join(join, after, again))
+            part = self.step(modality, parts[0], self.join(join, [after, again]))
         return self.new(fixed, text, [part], number=number)
 
     def variable(self, at, name, negated, scope):
@@ -351,9 +326,4 @@ class Formula:
             self.parser.refuse(
                 f"the variable {shown(name)} is under an odd number of negations inside its fixed point", at
             )
-        return self.use(number, name)
-
-    def use(self, number, name):
-        """A place of the variable of a fixed point."""
-        self.used.setdefault(number, []).append(self.node())
-        return number, self.used[number][-1], name
+        return number, name, {number: 0}

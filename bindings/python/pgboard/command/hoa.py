@@ -11,6 +11,7 @@ Buchi's, are such ones. Whatever is not read is refused with its place.
 
 import re
 from array import array
+from itertools import product
 
 from . import WORDS, Refused, called, shown
 from .diagrams import Diagrams
@@ -34,9 +35,9 @@ HEADERS = {
 PLAYERS = re.compile("(?i)player|owner|controll")
 COMMENT = re.compile(r"(/\*)|\*/")
 IN_STRING = re.compile(r'(?s)\\.|"')
+VALUES = {"t": ["t"], "f": ["f"]}
 # of names that `acc-name` gives whether the greatest set decides, whether odd ones accept, and how many sets
 # there are
-VALUES = {"t": ["t"], "f": ["f"]}
 NAMED = {"Buchi": (True, 0, 1), "co-Buchi": (True, 1, 1), "all": (True, 1, 0), "none": (True, 0, 0)}
 
 
@@ -100,22 +101,20 @@ def joined(operator, _, left, right):
 class Automaton:
     """A parity automaton or a parity game: of each state its edges, (letters, priority, target).
 
-    A set of letters is a decision diagram. From the top it tests the propositions of the environment, by
-    rising numbers, and below them those of the controller, by falling numbers. Priorities are those of a game
-    in which the greatest decides, and in which even ones accept. In a game `owners` has the player of each
-    state; player 1 wins where the automaton accepts. Of an automaton it is None.
+    A set of letters is a decision diagram, in which propositions have the order in which labels first name
+    them (Fujita, Fujisawa and Kawato 1988). Priorities are those of a game in which the greatest decides, and
+    in which even ones accept. In a game `owners` has the player of each state; player 1 wins where the
+    automaton accepts. Of an automaton it is None.
     """
 
     def __init__(self, path, text):
         self.tokens = Text(path, text)
         self.first = self.names = self.controllable = self.condition = self.owners = self.name = None
-        self.inputs = ()
+        self.inputs, self.levels = (), {}
         self.states, self.diagrams = MOST, Diagrams(f"{called(path)}: the labels")
         self.aliases, self.edges, self.called, self.headers = {}, {}, {}, {}
         # where states are described, in the order of these; of each that is not yet, where it is first named
         self.places, self.targets = array("I"), {}
-        # the states whose moves were checked
-        self.checked = set()
         if not self.tokens.next_is("HOA:"):
             self.tokens.refuse("expected HOA:")
         while not self.tokens.takes("--BODY--"):
@@ -123,7 +122,7 @@ class Automaton:
         if self.owners is None:
             self.need("controllable-AP:")
         self.need("Start:", "AP:", "Acceptance:")
-        if self.name and not is_parity(self.tree, *self.name[0]):
+        if self.name and self.name[0] not in self.conditions:
             self.tokens.refuse("the header acc-name: contradicts the header Acceptance:", self.name[1])
         if self.owners and self.states not in (MOST, len(self.owners)):
             why = f"spot-state-player: has {len(self.owners)} players for {self.states} states"
@@ -192,7 +191,7 @@ class Automaton:
             if names.setdefault(name, number) < number:
                 self.tokens.refuse(f"the proposition {shown(name)} is given twice", at)
         self.names = list(names)
-        self.inputs = self.levels = range(len(names))
+        self.inputs = range(len(names))
 
     def outputs(self):
         controllable = {}
@@ -202,14 +201,7 @@ class Automaton:
                 self.tokens.refuse(f"proposition {proposition} is given twice", at)
             controllable[proposition] = at
         self.controllable = list(controllable)
-        self.inputs = [it for it in self.levels if it not in controllable]
-        order = [*self.inputs, *sorted(controllable, reverse=True)]
-        self.levels = sorted(self.levels, key=order.__getitem__)
-        # (until here the level of a proposition was its number)
-        diagrams, known = self.diagrams, {}
-        moved = lambda it, low, high: diagrams.choice(diagrams.variable(self.levels[it]), high, low)
-        for name, label in self.aliases.items():
-            self.aliases[name] = diagrams.fold(label, lambda leaf: leaf, moved, known=known)
+        self.inputs = [it for it in self.inputs if it not in controllable]
 
     def players(self):
         self.owners = []
@@ -225,25 +217,21 @@ class Automaton:
 
     def acceptance(self):
         at, count = self.tokens.at(), self.tokens.number(MOST)
-        self.tree = self.tokens.chain(("|", "&"), self.sets_condition, joined)
-        kinds = [(greatest, odd) for greatest in (True, False) for odd in (0, 1)]
-        found = [it for it in kinds if is_parity(self.tree, *it, count)]
-        if not found:
+        self.leaf, self.join, self.negation = self.set_condition, joined, []
+        tree = self.joined()
+        self.conditions = [it for it in product((True, False), (0, 1), [count]) if is_parity(tree, *it)]
+        if not self.conditions:
             self.tokens.refuse("this is no parity condition: max or min, even or odd", at)
-        self.condition = *found[0], count
+        self.condition = greatest, _, _ = self.conditions[0]
+        self.none = self.priority(-1 if greatest else count)
 
-    def sets_condition(self):
-        tokens = self.tokens
-        if tokens.takes("("):
-            tree = tokens.inside(lambda: tokens.chain(("|", "&"), self.sets_condition, joined), 6)
-            tokens.take(")")
-            return tree
-        if tokens.next_is("t", "f"):
-            return VALUES[tokens.take("a name").text]
-        name = tokens.take("Inf", "Fin").text
-        tokens.take("(")
-        number = tokens.number(MOST)
-        tokens.take(")")
+    def set_condition(self):
+        if self.tokens.next_is(*VALUES):
+            return VALUES[self.tokens.take("a name").text]
+        name = self.tokens.take("Inf", "Fin").text
+        self.tokens.take("(")
+        number = self.tokens.number(MOST)
+        self.tokens.take(")")
         return [name, number]
 
     def names_condition(self):
@@ -256,28 +244,17 @@ class Automaton:
             kind = words[1] == "max", int(words[2] == "odd"), int(words[3])
         self.name = kind and (kind, at)
 
-    def priority(self, sets):
-        """The priority of what is in these sets. What is in none counts less than all sets, and so does its
-        priority.
-        """
+    def priority(self, number):
+        """That of a set. What is in none has a lower one, `none`."""
         greatest, odd, count = self.condition
-        if greatest:
-            return max(sets, default=-1) + 2 - odd
-        return count + (count + odd) % 2 - min(sets, default=count)
+        return number + 2 - odd if greatest else count + (count + odd) % 2 - number
 
-    def number(self, priority):
-        """The number of the set that has this priority, or None."""
-        greatest, odd, count = self.condition
-        number = priority - 2 + odd if greatest else count + (count + odd) % 2 - priority
-        return number if 0 <= number < count else None
-
-    def sets(self, *found):
-        """The set that decides among these and those that come next, in a list which may be empty."""
-        pick = max if self.condition[0] else min
+    def sets(self, priority):
+        """The greatest of this priority and those of the sets that come next."""
         if self.tokens.takes("{"):
             while not self.tokens.takes("}"):
-                found = [pick([*found, self.tokens.number(self.condition[2])])]
-        return found
+                priority = max(priority, self.priority(self.tokens.number(self.condition[2])))
+        return priority
 
     def state(self):
         tokens = self.tokens
@@ -291,7 +268,7 @@ class Automaton:
         self.targets.pop(state, None)
         if tokens.next_is("a string"):
             self.called[state] = tokens.string()
-        here, edges, seen, count = self.sets(), self.edges.setdefault(state, []), 0, 0
+        here, edges, seen, count = self.sets(self.none), self.edges.setdefault(state, []), 0, 0
         implied = common is None and tokens.next_is("a number")
         while not self.ends("State:", "--END--"):
             at = tokens.at()
@@ -305,21 +282,23 @@ class Automaton:
             at, target = tokens.at(), tokens.number(self.states)
             if target not in self.edges:
                 self.targets.setdefault(target, at)
-            edge = letters, self.priority(self.sets(*here)), target
+            edge = letters, self.sets(here), target
             if letters:
                 edges.append(edge)
         if implied and count != 1 << len(self.names):
             has = "1 edge without a label" if count == 1 else f"{count} edges without labels"
-            tokens.refuse(f"{has}, where each of {self.letters()} letters has to have one", place)
-
-    def letters(self):
-        return 1 << len(self.names) if len(self.names) < 30 else f"2^{len(self.names)}"
+            width = len(self.names)
+            letters = 1 << width if width < 30 else f"2^{width}"
+            tokens.refuse(f"{has}, where each of {letters} letters has to have one", place)
 
     def implied(self, at):
         """The letter of an edge without a label: the first edge's is that without propositions, and so on."""
         if not self.tokens.next_is("a number") or at >= 1 << len(self.names):
             self.tokens.refuse("expected an edge without a label for each letter, and no other edge")
-        return self.diagrams.cube({level: at >> it & 1 for it, level in enumerate(self.levels)})
+        return self.diagrams.cube({self.level(it): at >> it & 1 for it in range(len(self.names))})
+
+    def level(self, proposition):
+        return self.levels.setdefault(proposition, len(self.levels))
 
     def bracket(self):
         self.tokens.take("[")
@@ -328,95 +307,99 @@ class Automaton:
         return letters
 
     def label(self):
-        either, both = self.diagrams.either, self.diagrams.both
-        join = lambda sign, _, left, right: either(left, right) if sign == "|" else both(left, right)
-        return self.tokens.chain(("|", "&"), self.atom, join)
+        self.leaf, self.join, self.negation = self.atom, self.join_letters, ["!"]
+        return self.joined()
+
+    def join_letters(self, sign, _, left, right):
+        return self.diagrams.either(left, right) if sign == "|" else self.diagrams.both(left, right)
+
+    def joined(self):
+        """What | and & join, brackets group, and a sign of negation may stand before."""
+        return self.tokens.chain(("|", "&"), self.part, self.join)
+
+    def part(self):
+        is_negated = False
+        while self.tokens.takes(*self.negation):
+            is_negated = not is_negated
+        if self.tokens.takes("("):
+            found = self.tokens.inside(self.joined, 6)
+            self.tokens.take(")")
+        else:
+            found = self.leaf()
+        return self.diagrams.inverse(found) if is_negated else found
 
     def atom(self):
         tokens = self.tokens
-        if tokens.takes("!"):
-            return self.diagrams.inverse(tokens.inside(self.atom))
-        if tokens.takes("("):
-            letters = tokens.inside(self.label, 6)
-            tokens.take(")")
-            return letters
         if tokens.next_is("a number"):
-            return self.diagrams.variable(self.levels[tokens.number(len(self.names))])
+            return self.diagrams.variable(self.level(tokens.number(len(self.names))))
         name = tokens.next.text if tokens.next else ""
         known = self.aliases if name in self.aliases else {"t": 1, "f": 0}
         if name not in known:
             tokens.refuse("expected a number of a proposition, t, f, an alias from above, ! or (")
         return known[tokens.take("a name").text]
 
-    def cube(self, propositions, spelled):
-        """The letters in which these propositions are as spelled: 1, 0, or - for either."""
-        pairs = zip(propositions, spelled)
-        return self.diagrams.cube({self.levels[it]: value == "1" for it, value in pairs if value != "-"})
-
-    def taken(self, state):
-        """Which edge of a state each letter takes, as a diagram: a leaf has its number, or is false."""
+    def taken(self, state, edges):
+        """Which of a state's edges each letter takes, as these are given; false where it takes none."""
         found = 0
-        for at, (letters, *_) in enumerate(self.edges[state]):
-            found = self.diagrams.choice(letters, self.diagrams.leaf(at), found)
+        for (letters, *_), edge in zip(self.edges[state], edges):
+            found = self.diagrams.choice(letters, edge, found)
         return found
 
     def steps(self, state):
-        """The same, and the edges (priority, target). In a game in which the players take turns an edge is a
-        move of player 0 and one of player 1.
+        """The numbers of the edges that letters take, and these edges (priority, target). In a game in which
+        the players take turns an edge is a move of player 0 and one of player 1.
 
         Player 0 begins, and chooses the propositions that are not controllable; each choice of them has one
         edge.
         """
         if self.owners is None:
-            return self.taken(state), [it[1:] for it in self.edges[state]]
+            edges = [it[1:] for it in self.edges[state]]
+            return self.taken(state, map(self.diagrams.leaf, range(len(edges)))), edges
         self.check_moves(state, 0)
-        diagrams, after, found = self.diagrams, {}, {}
+        after, found = {}, {}
         for _, priority, middle in self.edges[state]:
             if (priority, middle) not in after:
                 self.check_moves(middle, 1)
                 edges = [(max(priority, last), to) for _, last, to in self.edges[middle]]
-                numbers = [diagrams.leaf(found.setdefault(it, len(found))) for it in edges]
-                move = lambda leaf: leaf and numbers[diagrams.value(leaf)]
-                after[priority, middle] = diagrams.fold(self.taken(middle), move, diagrams.node)
-        edges = [after[it[1:]] for it in self.edges[state]]
-        begun = lambda leaf: edges[diagrams.value(leaf)]
-        return diagrams.fold(self.taken(state), begun, diagrams.node), list(found)
+                leaves = [self.diagrams.leaf(found.setdefault(it, len(found))) for it in edges]
+                after[priority, middle] = self.taken(middle, leaves)
+        return self.taken(state, [after[it[1:]] for it in self.edges[state]]), list(found)
 
     def check_moves(self, state, player):
         """Refuses a state that is not the player's, or whose edges are no choices of his propositions."""
-        if (state, player) in self.checked:
-            return
-        place = place_of(self.places, self.edges, state)
-        refuse = lambda why: self.tokens.refuse(f"state {state}: {why}", place)
+        place = lambda: place_of(self.places, self.edges, state)
+        refuse = lambda why: self.tokens.refuse(f"state {state}: {why}", place())
         if self.owners[state] != player:
             turns = "they have to take turns, and player 0 begins"
             refuse(f"player {1 - player}'s, where player {player} moves: {turns}")
         seen = 0
         for letters, _, _ in self.edges[state]:
-            tested = set()
-            self.diagrams.fold(letters, bool, lambda level, *_: tested.add(level))
-            for it, name in enumerate(self.names):
-                if self.levels[it] in tested and (it in self.controllable) != bool(player):
-                    refuse(f"a label names {shown(name)}, which player {player} doesn't choose")
+            tested = self.diagrams.levels(letters)
+            for it, level in sorted(self.levels.items()):
+                if level in tested and (it in self.controllable) != bool(player):
+                    refuse(f"a label names {shown(self.names[it])}, which player {player} doesn't choose")
             if self.diagrams.both(letters, seen):
                 refuse("not deterministic: two of its edges take one letter")
             seen = self.diagrams.either(letters, seen)
         if not player and seen != 1:
             refuse("no edge takes one of player 0's choices")
-        self.checked.add((state, player))
 
 
 class Arena:
     """The game of environment and controller. Its vertices are
 
-    ("state", q), where the environment chooses; ("edges", q, those that may follow), where the controller
-    chooses one; ("edge", priority, target), which is taken; and ("lost",), where the automaton has no edge.
+    ("state", q), where the environment chooses; ("edges", q, a leaf that has those that may follow), where
+    the controller chooses one; ("edge", priority, target), which is taken; and ("lost",), where the automaton
+    has no edge.
     """
 
     def __init__(self, automaton):
         if automaton.owners is not None:
             automaton.need("controllable-AP:")
-        self.automaton, self.diagrams, self.border = automaton, automaton.diagrams, len(automaton.inputs)
+        self.automaton, self.diagrams = automaton, automaton.diagrams
+        # by the levels of outputs that labels name
+        self.outputs = {automaton.levels[it]: it for it in automaton.controllable if it in automaton.levels}
+        # of each state its steps, their edges, by inputs the sets of edges, and what these sets number
         self.steps = {}
         self.vertices, self.rows = reached(("state", automaton.first), self.row)
         self.numbers = {vertex: number for number, vertex in enumerate(self.vertices)}
@@ -429,32 +412,31 @@ class Arena:
             return 1, 0, [vertex], "no edge"
         if kind == "edges":
             edges = self.steps[more[0]][1]
-            return 0, 0, [("edge", *edges[it]) for it in more[1]] or [("lost",)], f"{more[0]}, the controller"
-        diagram, _ = self.steps[more[0]] = self.automaton.steps(more[0])
-        following, after = self.following(diagram), {}
-        found = lambda it: after.setdefault(("edges", more[0], following(it)))
-        self.diagrams.fold(diagram, found, lambda *_: None, self.border)
-        return 0, 1, list(after), f"{more[0]}, the environment"
-
-    def following(self, steps):
-        """What says which edges some choice of outputs takes, where steps have come to a diagram. A set of
-        edges is a number that has bit k for the edge of leaf `first` + k.
-        """
+            some = [("edge", *edges[it]) for it in self.members(*more)]
+            return 0, 0, some or [("lost",)], f"{more[0]}, the controller"
+        steps, edges = self.automaton.steps(more[0])
         leaves = [it for it in self.diagrams.leaves(steps) if it]
-        known = {0: None, **{it: (at, 1) for at, it in enumerate(leaves)}}
+        # a set of edges is a number that has bit k for the edge of leaf `first` + k
+        marks = {0: 0, **{it: self.diagrams.leaf((at, 1)) for at, it in enumerate(leaves)}}
+        sets = self.diagrams.fold(steps, marks.get)
+        sets = self.diagrams.without(sets, self.outputs, lambda *it: self.diagrams.apply(self.union, *it))
+        self.steps[more[0]] = steps, edges, sets, leaves
+        after = [("edges", more[0], it) for it in self.diagrams.leaves(sets)]
+        return 0, 1, after, f"{more[0]}, the environment"
 
-        def joined(_, *halves):
-            if None in halves:
-                return halves[0] or halves[1]
-            (first, own), (second, other) = sorted(halves)
-            return first, own | other << second - first
+    def union(self, left, right):
+        if left == right or not (left and right):
+            return left or right
+        if not (self.diagrams.is_leaf(left) and self.diagrams.is_leaf(right)):
+            return None
+        (first, some), (second, other) = sorted(map(self.diagrams.value, (left, right)))
+        return self.diagrams.leaf((first, some | other << second - first))
 
-        def edges(diagram):
-            first, some = self.diagrams.fold(diagram, None, joined, known=known) or (0, 0)
-            taken = (it for at, it in enumerate(leaves[first : first + some.bit_length()]) if some >> at & 1)
-            return tuple(sorted(map(self.diagrams.value, taken)))
-
-        return edges
+    def members(self, state, leaf):
+        """The numbers of the edges of a set."""
+        first, some = self.diagrams.value(leaf) or (0, 0)
+        taken = zip(self.steps[state][3][first:], reversed(f"{some:b}"))
+        return sorted(self.diagrams.value(it) for it, bit in taken if bit == "1")
 
 
 def game_of(automaton, closes):
@@ -480,22 +462,21 @@ def owned(automaton, closes):
     last = max(automaton.edges)
     game.decides = "greatest" if automaton.condition[0] else "least"
     game.states = dict(zip(automaton.edges, automaton.edges))
+    sets = {automaton.priority(it): it for it in range(automaton.condition[2])}
 
     def put(id, own, *row):
         game.put(id, own + 1, *row)
-        game.given[id] = automaton.number(own)
+        game.given[id] = sets.get(own)
 
     for state, edges in automaton.edges.items():
-        owner, priorities = automaton.owners[state], {it[1] for it in edges}
-        successors = dict.fromkeys(to for _, _, to in edges)
-        if len(priorities) > 1:
-            successors = []
-            for _, own, to in dict.fromkeys((0, *it[1:]) for it in edges):
-                last += 1
-                successors.append(last)
-                put(last, own, owner, [to], f"{state} to {to}")
-            priorities = {-1}
-        put(state, *(priorities or {-1}), owner, list(successors), automaton.called.get(state, ""))
+        owner, moves = automaton.owners[state], dict.fromkeys(it[1:] for it in edges)
+        successors, (priority, *others) = [to for _, to in moves], {own for own, _ in moves} or {-1}
+        if others:
+            priority, successors = -1, range(last + 1, last + 1 + len(moves))
+            last += len(moves)
+            for id, (own, to) in zip(successors, moves):
+                put(id, own, owner, [to], f"{state} to {to}")
+        put(state, priority, owner, list(successors), automaton.called.get(state, ""))
         if not edges:
             if not closes:
                 why = f"state {state} has no edge: with --dead-ends its owner loses there"

@@ -115,14 +115,15 @@ class Product:
         self.model, self.formula, self.count = model, formula, len(formula.parts)
         labels = Labels(label for moves in model.next.values() for label, _ in moves)
         # what the formula names and no label is; without `tau`, which a model need not have
-        leaves = [it for regular in formula.regulars for it in named(regular)]
+        leaves = [it for _, regular in sorted(formula.regulars.items()) for it in named(regular)]
         self.unknown = dict.fromkeys(it[1] for it in leaves if not labels.taken(it) and it[2] != "tau")
         # (by this name another tool writes it)
         has_i = "i" in labels.numbers and "tau" not in labels.numbers
         self.means_i = has_i and any(it[2] == "tau" for it in leaves)
         # of each modality its labels, and None of another subformula; equal sets are one
         self.numbers, known = labels.numbers, {}
-        taken = (actions and labels.taken(actions) for _, _, actions, _ in formula.parts)
+        bits = lambda actions: labels.taken(actions).to_bytes(len(labels.numbers) // 8 + 1, "little")
+        taken = (actions and bits(actions) for _, _, actions, _ in formula.parts)
         self.taken = [known.setdefault(it, it) for it in taken]
         self.vertices = [model.first * self.count + formula.first]
         with working("makes the game") as self.work:
@@ -130,8 +131,9 @@ class Product:
 
     def moves_of(self, state, part):
         """The transitions of a state that a modality looks at."""
-        taken, numbers = self.taken[part], self.numbers
-        return [it for it in self.model.next.get(state, ()) if taken >> numbers[it[0]] & 1]
+        taken, moves = self.taken[part], self.model.next.get(state, ())
+        numbers = (self.numbers[label] for label, _ in moves)
+        return [it for it, number in zip(moves, numbers) if taken[number >> 3] >> (number & 7) & 1]
 
     def found(self):
         """Finds the vertices that are reached, and gives for each the row (priority, owner, successors'

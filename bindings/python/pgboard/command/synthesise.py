@@ -26,6 +26,7 @@ state, from 0.
 
 # mypy: ignore-errors
 
+import functools
 import itertools
 
 from . import FILE, Refused, aiger, engine, pictures, printable, write
@@ -44,75 +45,138 @@ something was refused
 """
 
 MOST_ROWS = 1 << 18
+WRONG = "the machine that was found"
 
 
-class Play(Arena):
-    """The game of environment and controller, and the machine of its winner."""
+class Machine:
+    """A player's machine: of each state, by next states where these come, and where each proposition of
+    `named` is written. These are diagrams of what is read, by its places in `order`.
+    """
 
-    def chosen(self, solution, *vertex):
-        return self.vertices[solution[self.numbers[vertex]][1]]
+    def __init__(self, automaton, player):
+        self.automaton, self.player, self.diagrams = automaton, player, automaton.diagrams
+        self.reads, self.writes = (automaton.inputs, automaton.controllable)[:: -1 if player else 1]
+        self.order = sorted(self.reads, reverse=bool(player))
+        self.levels = [*map({it: at for at, it in enumerate(self.order)}.get, self.reads)]
+        # what is written; other propositions that no label names are not, and so they are 0
+        self.named = [it for it in self.writes if it in automaton.levels]
+        self.first, self.steps = automaton.first, {}
 
-    def spelled(self, propositions, high):
-        """The values of propositions of which those of these levels hold."""
-        return "".join("01"[self.automaton.levels[it] in high] for it in propositions)
+    def names(self):
+        return ([self.automaton.names[it] for it in some] for some in (self.reads, self.writes))
 
-    def controller(self, solution, state):
-        """What the controller does in a state: by its inputs, a diagram of leaves (next state, outputs)."""
-        diagrams, known, (steps, edges) = self.diagrams, {}, self.steps[state]
-        following = self.following(steps)
+    def merge(self):
+        """Makes states one that behave alike, by finer and finer groups (Hopcroft 1971)."""
+        before, group = {state: [] for state in self.steps}, dict.fromkeys(self.steps, 0)
+        for state, (targets, _) in self.steps.items():
+            for to, reads in targets.items():
+                before[to].append((state, reads))
+        members = [set(before)]
+        waiting = split(group, members, {state: tuple(step[1]) for state, step in self.steps.items()})
+        for into in waiting:  # which grows on the way
+            keys = {}
+            for state, reads in (it for to in into for it in before[to]):
+                keys[state] = self.diagrams.either(reads, keys.get(state, 0))
+            waiting += split(group, members, keys)
+        first = {group[state]: state for state in [*before][::-1]}
+        kept, self.steps = self.steps, {}
+        for state in before:
+            if first[group[state]] == state:
+                targets, _ = self.steps[state] = {}, kept[state][1]
+                for to, reads in kept[state][0].items():
+                    to = first[group[to]]
+                    targets[to] = self.diagrams.either(reads, targets.get(to, 0))
 
-        def answer(after):
-            found = following(after)
-            _, *taken = self.chosen(solution, "edges", state, found)
-            leaf = diagrams.leaf(next(it for it in found if edges[it] == tuple(taken)))
-            *high, _ = diagrams.least(after, leaf.__eq__, known=known.setdefault(leaf, {}))
-            return diagrams.leaf((taken[1], self.spelled(self.automaton.controllable, high)))
+    def rows(self):
+        """The rows of the table: (cube that is read, state, next state, what is written)."""
+        lines = ((state, *it) for state, step in self.steps.items() for it in self.lines(*step))
+        rows = ((cube, *it) for *it, read in lines for cube in self.diagrams.cubes(read, self.levels))
+        found = list(itertools.islice(rows, MOST_ROWS + 1))
+        if len(found) > MOST_ROWS:
+            raise Refused(f"the table has more than {MOST_ROWS:,} lines, and --aiger writes no table")
+        return found
 
-        return diagrams.fold(steps, answer, diagrams.node, self.border)
+    def lines(self, targets, writes):
+        """Of a state (next state, what is written, what is read)."""
+        diagrams, found = self.diagrams, 0
+        for to, reads in targets.items():
+            found = diagrams.choice(reads, diagrams.leaf((to, "")), found)
+        values = dict(zip(self.named, writes))
+        varied = [it for it, one in values.items() if one > 1]
+        for name in varied:
+            is_1, is_0 = (diagrams.mapped(found, lambda it: (it[0], it[1] + bit)) for bit in "10")
+            found = diagrams.choice(values[name], is_1, is_0)
+        for it, reads in diagrams.parts(found).items():
+            to, bits = diagrams.value(it)
+            values.update(zip(varied, bits))
+            yield to, "".join(str(values.get(it, 0)) for it in self.writes), reads
 
-    def environment(self, solution, state):
-        """What the environment does in a state: by its outputs, a diagram of leaves (next state, inputs)."""
-        diagrams, (steps, edges) = self.diagrams, self.steps[state]
-        following, wanted = self.following(steps), self.chosen(solution, "state", state)[2]
-        *high, after = diagrams.least(steps, lambda it: following(it) == wanted, self.border)
-        written = self.spelled(self.automaton.inputs, high)
-        # without an edge the environment has won, and may do what it likes
-        target = lambda leaf: edges[diagrams.value(leaf)][1] if leaf else state
-        return diagrams.fold(after, lambda leaf: diagrams.leaf((target(leaf), written)), diagrams.node)
+    def table(self, rows):
+        inputs, outputs = (printable(" ".join(it)) for it in self.names())
+        head = f"# inputs: {inputs}\n# outputs: {outputs}\n.i {len(self.reads)}\n.o {len(self.writes)}\n"
+        head += f".p {len(rows)}\n.s {len({it[1] for it in rows})}\n.r s{rows[0][1]}\n"
+        return head + "".join("{} s{} s{} {}\n".format(*row) for row in rows) + ".e\n"
 
-    def machine(self, solution):
-        """The winner's machine: of each state, the first one first, by (next state, what is written) the
-        diagram of what is read.
-        """
-        step = self.environment if solution[0][0] else self.controller
-        machine, states, found = {}, [self.automaton.first], {self.automaton.first}
-        for state in states:
-            parts = self.diagrams.parts(step(solution, state))
-            machine[state] = {self.diagrams.value(it): reads for it, reads in parts.items()}
-            new = [to for to in dict.fromkeys(to for to, _ in machine[state]) if to not in found]
-            states += new
-            found.update(new)
-        return merged(machine, self.diagrams)
+    def read(self, text):
+        """Reads a table."""
+        seen = {}
+        for line in text.splitlines():
+            if line.startswith(".r "):
+                self.first = line[3:]
+            elif line[0] not in "#.":
+                self.add(seen, *line.split(" "))
 
+    def add(self, seen, read, state, to, written):
+        either, bits = self.diagrams.either, zip(self.levels, read)
+        read = self.diagrams.cube({level: bit == "1" for level, bit in bits if bit != "-"})
+        if self.diagrams.both(read, seen.get(state, 0)):
+            raise Refused(f"{WRONG} is none: {state} has two answers")
+        seen[state] = either(read, seen.get(state, 0))
+        targets, writes = self.steps.setdefault(state, ({}, [0] * len(self.named)))
+        targets[to], bits = either(read, targets.get(to, 0)), dict(zip(self.writes, written))
+        writes[:] = (either(read, it) if bits[name] == "1" else it for name, it in zip(self.named, writes))
 
-def merged(machine, diagrams):
-    """The machine in which states that behave alike are one, by finer and finer groups (Hopcroft 1971)."""
-    before = {state: [] for state in machine}
-    for state, lines in machine.items():
-        for (to, written), reads in lines.items():
-            before[to].append((state, written, reads))
-    group, members, waiting = dict.fromkeys(machine, 0), [set(machine)], [list(machine)]
-    for into in waiting:  # which grows on the way
-        keys = {}
-        for state, written, reads in (line for to in into for line in before[to]):
-            key = keys.setdefault(state, {})
-            key[written] = diagrams.either(reads, key.get(written, 0))
-        waiting += split(group, members, {state: frozenset(key.items()) for state, key in keys.items()})
-    name = {}
-    for state in machine:
-        name.setdefault(group[state], state)
-    named = {state: name[group[state]] for state in machine}
-    return {state: grouped(machine[state], named, diagrams) for state in name.values()}
+    def check(self):
+        """Judges the product of the machine with the automaton, in which the opponent alone chooses."""
+        diagrams, known, loser = self.diagrams, {}, 1 - self.player
+        for state in dict.fromkeys(itertools.chain(self.steps, *(it[0] for it in self.steps.values()))):
+            targets, writes = self.steps.get(state, ({}, ()))
+            if functools.reduce(diagrams.either, targets.values(), 0) != 1:
+                raise Refused(f"{WRONG} is none: {state} has no answer to something")
+            if self.player and not {0, 1}.issuperset(writes):
+                raise Refused(f"{WRONG} is none: {state} has two answers")
+        # (no edge has this leaf)
+        other = diagrams.leaf(None)
+        letters = {state: self.letters(*step) for state, step in self.steps.items()}
+
+        def row(vertex):
+            kind, *more = vertex
+            if kind == "edge":
+                return more[0], loser, [("at", *more[1:])], ""
+            if kind == "lost":
+                return 1, loser, [vertex], ""
+            state, at = more
+            known[at] = steps, edges = known.get(at) or self.automaton.steps(at)
+            leaves = lambda some: diagrams.leaves(diagrams.choice(some, steps, other))
+            taken = ((to, it) for to, some in letters[state] for it in leaves(some) if it != other)
+            edge = lambda to, priority, target: ("edge", priority, to, target)
+            after = (edge(to, *edges[diagrams.value(it)]) if it else ("lost",) for to, it in taken)
+            return 0, loser, list(after), ""
+
+        _, rows = reached(("at", self.first, self.automaton.first), row)
+        won = Solution(dict.fromkeys(range(len(rows)), (self.player, None)))
+        said = engine.verdict(Game.of_rows(rows), won)
+        if said != "ok":
+            raise Refused(f"{WRONG} fails: {said}", FILE)
+
+    def letters(self, targets, writes):
+        """Of a state (next state, the letters that lead there)."""
+        diagrams, level, known, written = self.diagrams, self.automaton.level, {}, 1
+        placed = lambda it: diagrams.placed(it, lambda at: diagrams.variable(level(self.order[at])), known)
+        for it, one in sorted(zip(self.named, map(placed, writes)), key=lambda it: -level(it[0])):
+            same = diagrams.choice(diagrams.variable(level(it)), one, diagrams.inverse(one))
+            written = diagrams.both(same, written)
+        return [(to, diagrams.both(placed(reads), written)) for to, reads in targets.items()]
 
 
 def split(group, members, keys):
@@ -137,93 +201,60 @@ def split(group, members, keys):
     return made
 
 
-def grouped(lines, group, diagrams):
-    """The lines of a state, with the groups of next states in place of these."""
-    found = {}
-    for (to, written), reads in lines.items():
-        found[group[to], written] = diagrams.either(reads, found.get((group[to], written), 0))
-    return found
+class Play(Arena):
+    """The game of environment and controller, and the machine of its winner."""
 
+    def chosen(self, solution, *vertex):
+        return self.vertices[solution[self.numbers[vertex]][1]][1:]
 
-def rows_of(machine, automaton, reads):
-    """The rows of a machine's table: (cube that is read, state, next state, what is written)."""
-    levels = [automaton.levels[it] for it in reads]
-    rows = (
-        (cube, state, to, written)
-        for state, lines in machine.items()
-        for (to, written), read in lines.items()
-        for cube in automaton.diagrams.cubes(read, levels)
-    )
-    found = list(itertools.islice(rows, MOST_ROWS + 1))
-    if len(found) > MOST_ROWS:
-        raise Refused(f"the table has more than {MOST_ROWS:,} lines, and --aiger writes no table")
-    return found
+    def controller(self, solution, state):
+        """By inputs the next state, and where each output holds: 0 before 1, the last output first."""
+        diagrams, (steps, edges, sets, _) = self.diagrams, self.steps[state]
 
+        def edge(leaf):
+            taken = self.chosen(solution, "edges", state, leaf)
+            return diagrams.leaf(next(it for it in self.members(state, leaf) if edges[it] == taken))
 
-def table(rows, names, inputs, outputs):
-    named = lambda some: printable(" ".join(names[it] for it in some))
-    head = f"# inputs: {named(inputs)}\n# outputs: {named(outputs)}\n.i {len(inputs)}\n.o {len(outputs)}\n"
-    head += f".p {len(rows)}\n.s {len({it[1] for it in rows})}\n.r s{rows[0][1]}\n"
-    return head + "".join(f"{read} s{state} s{to} {written}\n" for read, state, to, written in rows) + ".e\n"
+        edge_by_input, writes = diagrams.fold(sets, edge), {}
+        right = diagrams.apply(self.same, steps, edge_by_input)
+        tested = diagrams.levels(right).intersection(self.outputs)
+        for level in sorted(tested, key=self.outputs.get, reverse=True):
+            output = diagrams.variable(level)
+            may_be_0 = diagrams.both(right, diagrams.inverse(output))
+            may_be_0 = diagrams.without(may_be_0, self.outputs, diagrams.either)
+            writes[level] = diagrams.inverse(may_be_0)
+            right = diagrams.both(right, diagrams.choice(output, writes[level], may_be_0))
+        return diagrams.mapped(edge_by_input, lambda it: edges[it][1]), writes
 
+    def same(self, left, right):
+        if left == right or self.diagrams.is_leaf(left) and self.diagrams.is_leaf(right):
+            return int(left == right)
 
-def plain_lines(machine, automaton, writes):
-    """Of each state of a machine the lines (what is read, what is written, next state)."""
-    cube = lambda written: automaton.cube(writes, written)
-    return {
-        state: [(read, cube(written), to) for (to, written), read in lines.items()]
-        for state, lines in machine.items()
-    }
+    def environment(self, solution, state):
+        """By outputs the next state, and which inputs hold."""
+        diagrams, (steps, edges, sets, _) = self.diagrams, self.steps[state]
+        levels = [self.automaton.levels[it] for it in self.automaton.inputs if it in self.automaton.levels]
+        cubes = diagrams.cubes(diagrams.parts(sets)[self.chosen(solution, "state", state)[1]], levels)
+        values = dict(zip(levels, (int(it == "1") for it in next(cubes))))
+        after = diagrams.placed(steps, lambda it: values.get(it, diagrams.variable(it)), {})
+        # without an edge the environment has won, and may do what it likes
+        to = lambda it: state if it is False else edges[it][1]
+        return diagrams.mapped(after, to), values
 
-
-def lines_of(text, automaton, reads, writes):
-    """The first state of a table, and the lines."""
-    first, lines = None, {}
-    for line in text.splitlines():
-        if line.startswith(".r "):
-            first = line[3:]
-        elif line and line[0] not in "#.":
-            read, state, to, written = line.split(" ")
-            line = automaton.cube(reads, read), automaton.cube(writes, written), to
-            lines.setdefault(state, []).append(line)
-    return first, lines
-
-
-def check(automaton, player, first, lines):
-    """Judges the product of a player's machine with the automaton, in which the opponent alone chooses."""
-    diagrams, known = automaton.diagrams, {}
-    # of other letters than those of a line
-    other = diagrams.leaf(None)
-    for state in [*lines, *(to for rows in lines.values() for _, _, to in rows if to not in lines)]:
-        rows, seen = lines.get(state, []), 0
-        for read, written, _ in rows:
-            if diagrams.both(read, seen) or player and written != rows[0][1]:
-                raise Refused(f"the machine that was found is none: {state} has two answers")
-            seen = diagrams.either(read, seen)
-        if seen != 1:
-            raise Refused(f"the machine that was found is none: {state} has no answer to something")
-
-    def row(vertex):
-        kind, *more = vertex
-        if kind == "edge":
-            return more[0], 1 - player, [("at", *more[1:])], ""
-        if kind == "lost":
-            return 1, 1 - player, [vertex], ""
-        machine_state, state = more
-        if state not in known:
-            known[state] = automaton.steps(state)
-        (steps, edges), successors = known[state], []
-        for read, written, to in lines[machine_state]:
-            taken = diagrams.leaves(diagrams.choice(diagrams.both(read, written), steps, other))
-            edge = lambda priority, target: ("edge", priority, to, target)
-            taken = (it for it in taken if it != other)
-            successors += (edge(*edges[diagrams.value(it)]) if it else ("lost",) for it in taken)
-        return 0, 1 - player, successors, ""
-
-    _, rows = reached(("at", first, automaton.first), row)
-    said = engine.verdict(Game.of_rows(rows), Solution(dict.fromkeys(range(len(rows)), (player, None))))
-    if said != "ok":
-        raise Refused(f"the machine that was found fails: {said}", FILE)
+    def machine(self, solution):
+        machine, states, known = Machine(self.automaton, solution[0][0]), [self.automaton.first], {}
+        step = self.environment if machine.player else self.controller
+        levels, diagrams = self.automaton.levels, self.diagrams
+        of = {levels.get(it): diagrams.variable(at) for at, it in enumerate(machine.order)}
+        placed = lambda diagram: diagrams.placed(diagram, of.get, known)
+        for state in states:
+            if state not in machine.steps:
+                after, writes = step(solution, state)
+                targets = {diagrams.value(it): reads for it, reads in diagrams.parts(placed(after)).items()}
+                machine.steps[state] = targets, [placed(writes.get(levels[it], 0)) for it in machine.named]
+                states += targets
+        machine.merge()
+        return machine
 
 
 def draw(path, rows):
@@ -252,16 +283,15 @@ def main(given):
         write(given.game, game.written())
     solution = engine.solved(game).solution.rows
     winner, machine = solution[0][0], play.machine(solution)
-    sides = automaton.inputs, automaton.controllable
-    reads, writes = sides[::-1] if winner else sides
-    rows = [] if given.aiger is not None and given.picture is None else rows_of(machine, automaton, reads)
-    circuit = lambda: aiger.Circuit(machine, automaton, reads, writes)
+    rows = [] if given.aiger is not None and given.picture is None else machine.rows()
+    circuit = lambda: aiger.Circuit(machine)
     if given.aiger is not None:
-        check(automaton, winner, automaton.first, plain_lines(machine, automaton, writes))
+        machine.check()
         text = circuit().text() if given.aiger == "-" else ""
     else:
-        text = table(rows, automaton.names, reads, writes)
-        check(automaton, winner, *lines_of(text, automaton, reads, writes))
+        text, again = machine.table(rows), Machine(automaton, winner)
+        again.read(text)
+        again.check()
     print("UNREALIZABLE\n" if winner else "REALIZABLE\n", text, sep="", end="", flush=True)
     if given.aiger not in (None, "-"):
         aiger.write(given.aiger, circuit())

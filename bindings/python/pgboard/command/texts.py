@@ -14,8 +14,8 @@ from typing import NamedTuple
 
 from . import Refused, called, end, in_memory, pieces, read, shown, undone
 
-# how packed files begin, and the module that unpacks them; `zstd` is a command
-PACKED = {b"\x1f\x8b": "gzip", b"BZh": "bz2", b"\xfd7zXZ\0": "lzma", b"\x28\xb5\x2f\xfd": "zstd"}
+# how packed files begin, and the command that unpacks them, or else a module does
+PACKED = {b"\x1f\x8b": "gzip", b"BZh": "bzip2", b"\xfd7zXZ\0": "xz", b"\x28\xb5\x2f\xfd": "zstd"}
 UTF_16 = "it is UTF-16: `iconv -f UTF-16 -t UTF-8` turns it into UTF-8"
 # the greatest number
 MOST = 2_147_483_647
@@ -30,7 +30,7 @@ def unpacked(path, data, kind):
         if not shutil.which(kind):
             raise Refused(f"{called(path)}: the command zstd, which unpacks it, is not on the PATH")
         return by_zstd(path, data)
-    module = importlib.import_module(kind)
+    module = importlib.import_module({"bzip2": "bz2", "xz": "lzma"}.get(kind, kind))
     try:
         return pieces(path, module.open(io.BytesIO(data)))
     except (OSError, EOFError, zlib.error, getattr(module, "LZMAError", OSError)) as error:
@@ -50,16 +50,19 @@ def by_zstd(path, data):
     return data
 
 
+def packed_by(data):
+    return next((kind for begins, kind in PACKED.items() if data.startswith(begins)), None)
+
+
 def bytes_of(*paths):
     """The bytes of files, of which one may be standard input, unpacked."""
     if paths.count("-") > 1:
         raise Refused("- is standard input, which can't be two files", 2)
-    kind_of = lambda data: next((kind for begins, kind in PACKED.items() if data.startswith(begins)), None)
     for path in paths:
         data = read(path)
-        kind = kind_of(data)
+        kind = packed_by(data)
         data = unpacked(path, data, kind) if kind else data
-        if kind and kind_of(data):
+        if kind and packed_by(data):
             raise Refused(f"{called(path)}: it is packed twice: unpack it once, by {kind}")
         yield data
 

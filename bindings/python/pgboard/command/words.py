@@ -47,6 +47,7 @@ where the winner owns a vertex, the edge to his choice, and elsewhere all edges.
 its player is said to win, it shows the other ways. For a choice that is missing, or is no successor, it
 shows the line and what could be there."""
 VERIFY = "Says whether a solution is one, and if not, what is wrong first."
+TIDY = "Writes a game as it was read, without names: one text for each game."
 STATS = "Counts vertices, edges, owners, priorities, own loops, degrees and components."
 NO_CHOICES = "without choices only winners can be compared, with those of `solve --winners`"
 DRAW = """Draws a game as Graphviz text, or as a picture by Graphviz's `dot`, on standard output.
@@ -86,6 +87,15 @@ def print_json(value):
     print()
 
 
+def tidy(given):
+    (data,) = bytes_of(given.game)
+    text = None if has_rules(given) else engine.as_it_is("tidy_bytes", data)
+    if text is None:
+        game = game_of_text(given.game, decoded(given.game, data), given)
+        text = engine.engine().tidy_bytes(engine.data_of(engine.plain(game)))
+    print(text, end="")
+
+
 def has_rules(given):
     return given.min or given.odd or given.dead_ends
 
@@ -112,6 +122,7 @@ def solve(given):
     text = None if reads else engine.as_it_is("solve_bytes", data, given.timeout)
     if text is None:
         return solve_read(given, data, *known)
+    engine.check(engine.engine().verify_bytes(data, text.encode()))
     if given.json:
         rows = [[*map(int, it[:-1].split())] for it in text.splitlines()[1:]]
         rows = [{"vertex": it[0], "winner": it[1], "choice": it[2] if it[2:] else None} for it in rows]
@@ -230,7 +241,8 @@ def winner(given):
     elif given.reach:
         print(Solution(rows).written(), end="", flush=True)
     else:
-        by_name = f"vertex {game.called(start) if game.states else start}"
+        has_name = game.states or given.vertex not in (None, str(start))
+        by_name = f"vertex {game.called(start) if has_name else start}"
         named = f"state {state['state']}" if state and given.vertex is None else by_name
         print(f"{PLAYERS[player]} wins {named}", flush=True)
     if given.part is not None:
@@ -352,6 +364,7 @@ def parser():
     add_solving(it)
     add_flags(it, **JSON)
     add_flags(word(verify, "verify", VERIFY, JUDGED, "one"), **JSON)
+    word(tidy, "tidy", TIDY)
     it = word(explains, "explain", EXPLAIN, JUDGED, "one")
     pictures.add_option(it, "what is wrong")
     add_start(word(winner, "winner", WINNER, f"0 where Even wins, 1 where Odd wins, {late}"))
@@ -390,6 +403,8 @@ def main(words):
         from . import why
 
         return why.main(words[1:])
+    if words[:1] == ["trace"]:
+        raise Refused("trace is the program's, which the wheel has not: a clone or a package has it", WORDS)
     top, each = parser()
     # (options may come between the words of one)
     if words and words[0] in each:
