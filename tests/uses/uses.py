@@ -252,6 +252,7 @@ def drawn(text, game):
 
 # the pictures; TRACE is the journal of one worker on examples/requests.pg
 PICTURES = {
+    "both_win": ["examples/both_win.pg", "examples/both_win.sol"],
     "five_continents": ["examples/five_continents.pg", "examples/five_continents.sol"],
     "requests": ["examples/requests.pg", "examples/requests.sol"],
     **{
